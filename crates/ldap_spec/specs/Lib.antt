@@ -1,0 +1,10 @@
+pub mod Elements
+pub mod Messages
+pub mod Kinds
+pub mod Requests
+pub mod Responses
+pub mod Controls
+pub mod Bodies
+pub mod Streams
+pub mod Framing
+pub mod Laws
