@@ -1,0 +1,181 @@
+-- Every refusal and every change of state has its cause.
+use Rattle.std.specs.Prelude.{ℕ, Bool, true, false, ◌==◌, ◌&&◌, ◌||◌, not, nat_le, List, [], ◌∷◌, length, Option, Some, None}
+use Rattle.std.specs.List.{list_any, list_all}
+use Rattle.ldap_spec.specs.Messages.{Message}
+use Rattle.ldap_spec.specs.Kinds.{kind_of, is_unbind, tag_of}
+use Rattle.ldap_spec.specs.Responses.{has_code, who_value, is_readable_who}
+use Rattle.ldap_spec.specs.Bodies.{refusal}
+use Rattle.lload_names.specs.declared.names.Entry.{Entry}
+use Rattle.lload_names.specs.declared.names.OpKind.{OpKind}
+use Rattle.lload_names.specs.declared.names.Answer.{Answer}
+use Rattle.lload_names.specs.declared.names.Answer.TheVariants.{Busy, Unavailable}
+use Rattle.lload_names.specs.declared.names.EndWhy.{EndWhy}
+use Rattle.lload_names.specs.declared.names.EndWhy.TheVariants.{Left, ZeroId, IdInUse, Unreadable}
+use Rattle.lload_names.specs.declared.names.Refusal.{Refusal}
+use Rattle.lload_names.specs.declared.names.Refusal.TheVariants.{C1, C2, C3, C4, C5, C6, C7, C8, C9, C10, C11, C12}
+use Rattle.lload_spec.specs.Lists.{passes, last, first_passes, last_passes, each_split, each_entry, some_split, some_entry, implies}
+use Rattle.lload_spec.specs.Settings.{Settings}
+use Rattle.lload_spec.specs.Journal.{Family, same_op, same_answer}
+use Rattle.lload_spec.specs.Entries.{in_message, chosen, late_op, gone_why, is_gone_by, is_down, same_why, is_link_reason, is_out, is_notice, is_expired, is_missed}
+use Rattle.lload_spec.specs.Operations.{Operation, operations, all_operations, outs, is_live_at}
+use Rattle.lload_spec.specs.Answers.{sendings, closing, is_open}
+use Rattle.lload_spec.specs.FirstCheck.{Check, Ends, Unbinds, Abandons, Refuses, GoesOn, first_check}
+use Rattle.lload_spec.specs.Fifo.{is_refused_with, is_chosen_for, is_pinned_to}
+
+-- whether an entry is the refusal of a request of this identifier and kind
+abbrev pub is_refusal_of : Refusal → ℕ → Option OpKind → Entry → Bool
+is_refusal_of which id None e = false
+is_refusal_of which id (Some kind) e = is_out id (refusal kind which) e
+
+-- whether the entries begin with the notice and the end of the client for this reason
+abbrev pub begin_with_notice : EndWhy → List Entry → Bool
+begin_with_notice why [] = false
+begin_with_notice why (e ∷ es) = is_notice e && first_passes (is_gone_by why) es
+
+-- what a check that holds of a message wants directly behind its In
+abbrev pub is_followed_up : Message → List Entry → Check → Bool
+is_followed_up m behind (Ends why) = begin_with_notice why behind
+is_followed_up m behind Unbinds = first_passes (is_gone_by Left) behind
+is_followed_up m behind (Refuses which) = first_passes (is_refusal_of which m.id (kind_of m.rest)) behind
+is_followed_up m behind (Abandons id) = true
+is_followed_up m behind GoesOn = true
+
+-- each In has directly behind it what its first check wants: a refusal, the notice and the end, or the end
+abbrev pub is_checked : Settings → Family → ℕ → List Entry → Entry → List Entry → Bool
+is_checked s F c place e behind = elim (in_message e.what) [ None ↦ true | Some m ↦ is_followed_up m behind (first_check s F c place m) ]
+
+-- a number for each refusal, to compare them
+abbrev pub refusal_number : Refusal → ℕ
+refusal_number C1 = 1
+refusal_number C2 = 2
+refusal_number C3 = 3
+refusal_number C4 = 4
+refusal_number C5 = 5
+refusal_number C6 = 6
+refusal_number C7 = 7
+refusal_number C8 = 8
+refusal_number C9 = 9
+refusal_number C10 = 10
+refusal_number C11 = 11
+refusal_number C12 = 12
+
+-- whether a check refuses so
+abbrev pub refuses_with : Refusal → Check → Bool
+refuses_with which (Refuses other) = refusal_number which == refusal_number other
+refuses_with which _ = false
+
+-- the check at the In of an operation
+abbrev pub check_of : Settings → Family → Operation → Check
+check_of s F o = first_check s F o.name.client o.before o.request
+
+-- whether the operation's only Out is this refusal, directly behind its In, as its first check wants
+abbrev pub is_refused_at_in : Settings → Family → Refusal → Operation → Bool
+is_refused_at_in s F which o = length (outs o) == 1 && first_passes (is_refusal_of which o.request.id (kind_of o.request.rest)) o.behind && refuses_with which (check_of s F o)
+
+-- whether an entry marks this answer for an operation that is live
+abbrev pub is_live_choice : Answer → Operation → List Entry → Entry → Bool
+is_live_choice answer o place e = passes (λ c. same_op o.name c.op && same_answer answer c.value) (chosen e.what) && is_live_at place o.name
+
+-- each Busy for a live operation has its refusal directly behind it, and each Unavailable
+abbrev pub is_choice_told : ℕ → Answer → Refusal → List Entry → Entry → List Entry → Bool
+is_choice_told c answer which place e behind =
+    list_all (λ o. implies (is_live_choice answer o place e) (first_passes (is_refusal_of which o.request.id (kind_of o.request.rest)) behind)) (operations c place)
+
+-- whether the operation was refused directly behind such an answer
+abbrev pub is_refused_by_choice : Family → Answer → Refusal → Operation → Bool
+is_refused_by_choice F answer which o =
+    some_split (λ place e behind. is_live_choice answer o place e && first_passes (is_refusal_of which o.request.id (kind_of o.request.rest)) behind) (F.client o.name.client)
+
+-- whether the operation was forwarded to this connection: by a choice, or by an exchange that goes on
+abbrev pub is_forwarded_to : Family → Operation → ℕ → Bool
+is_forwarded_to F o u = is_chosen_for F o u || is_pinned_to F o u
+
+-- whether an entry ends a connection where the operation was open
+abbrev pub is_lost_by : Settings → Operation → ℕ → List Entry → Entry → Bool
+is_lost_by s o u place e = is_down e && list_any (λ sent. same_op o.name sent.op && is_open s o sent) (sendings u place)
+
+-- whether a connection lost the operation: it missed the Forward, or went down where the operation was open
+abbrev pub is_lost_at : Settings → Family → Operation → ℕ → Bool
+is_lost_at s F o u = is_forwarded_to F o u && some_entry (λ place e. is_missed o.name e || is_lost_by s o u place e) (F.connection u)
+
+-- whether the operation expired at a connection that it was forwarded to
+abbrev pub is_expired_at : Family → Operation → ℕ → Bool
+is_expired_at F o u = is_forwarded_to F o u && list_any (is_expired o.name) (F.connection u)
+
+-- whether an answer to Who Am I tells no identity: an extended response that isn't a success with a readable value
+abbrev pub tells_no_identity : List ℕ → Bool
+tells_no_identity answer = tag_of answer == 0x78 && not (has_code 0 answer && is_readable_who (who_value answer))
+
+-- the cause of a refusal
+abbrev pub has_cause : Settings → Family → Operation → Refusal → Bool
+has_cause s F o C1 = is_refused_by_choice F Busy C1 o
+has_cause s F o C3 = is_refused_by_choice F Unavailable C3 o
+has_cause s F o C4 = list_any (is_lost_at s F o) F.connections
+has_cause s F o C5 = list_any (is_expired_at F o) F.connections
+has_cause s F o C9 = passes tells_no_identity (closing s F o)
+has_cause s F o which = is_refused_at_in s F which o
+
+-- each operation that is refused has the refusal's cause
+abbrev pub has_causes : Settings → Family → Operation → Bool
+has_causes s F o = list_all (λ which. implies (is_refused_with F which o) (has_cause s F o which)) (C1 ∷ C2 ∷ C3 ∷ C4 ∷ C5 ∷ C6 ∷ C7 ∷ C8 ∷ C9 ∷ C10 ∷ C11 ∷ C12 ∷ [])
+
+-- whether the last entry is the notice behind an In that the first check ends for this reason
+abbrev pub is_ended_by_check : Settings → Family → ℕ → List Entry → EndWhy → Bool
+is_ended_by_check s F c list why =
+    some_split (λ place e behind. passes (λ m. ends_for why (first_check s F c place m)) (in_message e.what) && (length behind == 1 && first_passes is_notice behind)) list
+  where
+    ends_for : EndWhy → Check → Bool
+    ends_for why (Ends other) = same_why why other
+    ends_for why _ = false
+
+-- whether the last entry is the In of an Unbind whose identifier isn't 0
+abbrev pub is_unbound : List Entry → Bool
+is_unbound place = last_passes (λ e. passes (λ m. not (m.id == 0) && is_unbind m.rest) (in_message e.what)) place
+
+-- the cause of a client's end: its check, its Unbind, or an event of its link
+abbrev pub has_gone_cause : Settings → Family → ℕ → List Entry → EndWhy → Bool
+has_gone_cause s F c place ZeroId = is_ended_by_check s F c place ZeroId
+has_gone_cause s F c place IdInUse = is_ended_by_check s F c place IdInUse
+has_gone_cause s F c place Unreadable = is_ended_by_check s F c place Unreadable
+has_gone_cause s F c place Left = is_unbound place
+has_gone_cause s F c place why = is_link_reason why
+
+-- each Gone has its cause
+abbrev pub is_gone_caused : Settings → Family → ℕ → List Entry → Entry → Bool
+is_gone_caused s F c place e = elim (gone_why e.what) [ None ↦ true | Some why ↦ has_gone_cause s F c place why ]
+
+-- each Late is of an operation that isn't live
+abbrev pub is_late_caused : List Entry → Entry → Bool
+is_late_caused place e = elim (late_op e.what) [ None ↦ true | Some op ↦ not (is_live_at place op) ]
+
+-- the moment never falls within one list
+abbrev pub is_later : List Entry → Entry → Bool
+is_later place e = elim (last place) [ None ↦ true | Some before ↦ nat_le before.at e.at ]
+
+-- each refused operation has the refusal's cause
+abbrev pub each_refusal_caused : Settings → Family → Bool
+each_refusal_caused s F = list_all (has_causes s F) (all_operations F)
+
+-- each In has directly behind it what its first check wants
+abbrev pub each_check_followed : Settings → Family → Bool
+each_check_followed s F = list_all (λ c. each_split (is_checked s F c) (F.client c)) F.clients
+
+-- each Busy for a live operation is told directly behind it
+abbrev pub each_busy_told : Family → Bool
+each_busy_told F = list_all (λ c. each_split (is_choice_told c Busy C1) (F.client c)) F.clients
+
+-- each Unavailable for a live operation is told directly behind it
+abbrev pub each_unavailable_told : Family → Bool
+each_unavailable_told F = list_all (λ c. each_split (is_choice_told c Unavailable C3) (F.client c)) F.clients
+
+-- each Gone has its cause
+abbrev pub each_gone_caused : Settings → Family → Bool
+each_gone_caused s F = list_all (λ c. each_entry (is_gone_caused s F c) (F.client c)) F.clients
+
+-- each Late is of an operation that isn't live
+abbrev pub each_late_caused : Family → Bool
+each_late_caused F = list_all (λ c. each_entry is_late_caused (F.client c)) F.clients
+
+-- within each list the moment never falls
+abbrev pub moments_never_fall : Family → Bool
+moments_never_fall F = each_entry is_later F.desk && list_all (λ c. each_entry is_later (F.client c)) F.clients && list_all (λ u. each_entry is_later (F.connection u)) F.connections

@@ -1,0 +1,39 @@
+//! The proxy as far as its promises speak of it: journals and the lists of their parts, operations and how they end,
+//! what upstreams answer, and what is promised of every journal.
+//!
+//! The definitions stand in `specs/`, one file for each topic. They speak of whole lists of entries: a place of a
+//! list is what stands before it, and there is no state, table or queue in them. The layers above state their
+//! contracts with them. The functions here have empty bodies: their contracts are laws of the definitions.
+#![tactic(auto)]
+
+ghost use Rattle.lload_spec.specs.Follows.{Follows};
+ghost use Rattle.lload_spec.specs.Given.{given};
+ghost use Rattle.lload_spec.specs.Good.{Good};
+ghost use Rattle.lload_spec.specs.Laws.{AnswersMayGrow, EndStays, LooksBack};
+ghost use Rattle.lload_spec.specs.Linked.{Linked};
+ghost use Rattle.lload_spec.specs.Plain.{plain};
+ghost use Rattle.lload_spec.specs.Settled.{Settled};
+ghost use Rattle.lload_spec.specs.Strict.{Strict};
+ghost use Rattle.lload_spec.specs.TextLaws.{TextsFollow};
+ghost use Rattle.lload_spec.specs.Verdict.{first_broken};
+ghost use Rattle.lload_spec.specs.WellFormed.{WellFormed};
+
+/// What looks back alone needs a look at the new entry only.
+pub fn later_entries_change_nothing_before()
+    ensures { LooksBack }
+{}
+
+/// What a client got stays allowed when the connection's list grows.
+pub fn answers_may_grow()
+    ensures { AnswersMayGrow }
+{}
+
+/// The end of an operation stays when its client's list grows.
+pub fn the_end_stays()
+    ensures { EndStays }
+{}
+
+/// The text of a journal with more entries behind it is the text of the one and then the text of the others.
+pub fn texts_follow()
+    ensures { TextsFollow }
+{}
