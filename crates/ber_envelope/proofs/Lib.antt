@@ -1,0 +1,4 @@
+pub mod Octets
+pub mod Fronts
+pub mod ShortForms
+pub mod FirstMessage
