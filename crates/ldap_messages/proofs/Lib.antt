@@ -1,0 +1,2 @@
+pub mod TaggedParts
+pub mod LentParts
