@@ -1,0 +1,6 @@
+mod Marks
+mod Listed
+mod Ticketing
+mod Sharing
+mod Ending
+mod Resting
