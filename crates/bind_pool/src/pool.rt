@@ -1,0 +1,80 @@
+ghost use Rattle.std.specs.Prelude.{◌≡◌, ℕ, [], Option, Some, None, Ok, true, false, OnOk, OnErr, IfOk, is_some, is_none};
+ghost use Rattle.bind_pool.specs.Holders.{holder_of, taken, without, holds, OthersStay, Rises};
+
+use lload_names::{NoMemory, OpName};
+use std::alloc::Global;
+use std::collections::BTreeMap;
+use std::marker::Model;
+
+/// The pairs of a bind connection and the operation that holds it, by rising connection.
+#[derive(Drop)]
+pub struct BindPool {
+    holders: BTreeMap<u32, OpName>,
+}
+
+impl Model for BindPool {
+    ghost use Rattle.std.specs.Prelude.{ℕ, List};
+    ghost use Rattle.lload_names.specs.declared.names.OpName.{OpName};
+
+    ghost Value = { List (ℕ × OpName) };
+
+    ghost use Rattle.bind_pool.specs.Holders.{Rises};
+
+    ghost view = { λ p. p.holders.entries };
+
+    ghost invariant = { λ p. Rises p.holders.entries };
+}
+
+impl BindPool {
+    /// A pool where no connection has a holder. It takes no memory; `alloc` serves later growth.
+    pub fn new(alloc: Global) -> BindPool
+        ensures { result ≡ [] }
+    {
+        BindPool {
+            holders: BTreeMap::new(alloc),
+        }
+    }
+
+    /// Makes an operation the holder of a connection; `Ok(false)` exactly where it has a holder, and then nothing
+    /// changes. For want of memory nothing changes.
+    pub fn take(&mut self, conn: u32, op: OpName) -> Result<bool, NoMemory>
+        ensures answer { IfOk result (λ taken. taken ≡ is_none (holder_of conn self.old)) }
+        ensures taken { result ≡ Ok true → self.new ≡ taken conn op self.old }
+        ensures held { result ≡ Ok false → self.new ≡ self.old }
+        ensures holder { result ≡ Ok true → holder_of conn self.new ≡ Some op }
+        ensures others { OthersStay conn self.old self.new }
+        ensures err { OnErr result (self.new ≡ self.old) }
+        ensures rises { Rises self.new }
+    {
+        if self.holders.contains_key(&conn) {
+            return Ok(false);
+        }
+        self.holders.insert(conn, op)?;
+        Ok(true)
+    }
+
+    /// Frees a connection from its holder; `false` exactly where that operation isn't its holder, and then nothing
+    /// changes. It takes no memory.
+    pub fn give(&mut self, conn: u32, op: OpName) -> bool
+        ensures answer { result ≡ holds op (holder_of conn self.old) }
+        ensures given { result ≡ true → self.new ≡ without conn self.old }
+        ensures freed { result ≡ true → holder_of conn self.new ≡ None }
+        ensures held { result ≡ false → self.new ≡ self.old }
+        ensures others { OthersStay conn self.old self.new }
+        ensures rises { Rises self.new }
+    {
+        if self.holder(conn) != Some(op) {
+            return false;
+        }
+        self.holders.remove(&conn);
+        true
+    }
+
+    /// The operation that holds a connection; `None` exactly where none does. It takes no memory.
+    pub fn holder(&self, conn: u32) -> Option<OpName>
+        ensures holder { result ≡ holder_of conn self.now }
+        ensures rises { Rises self.now }
+    {
+        self.holders.get(&conn).copied()
+    }
+}

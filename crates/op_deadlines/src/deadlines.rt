@@ -1,0 +1,84 @@
+ghost use Rattle.std.specs.Prelude.{◌≡◌, [], OnOk, OnErr};
+ghost use Rattle.std.specs.Ordering.{nat_cmp};
+ghost use Rattle.std.specs.BTreeMap.{insert_entry, is_at};
+ghost use Rattle.std.specs.Map.{remove_entry, set_value};
+ghost use Rattle.op_deadlines.specs.Due.{is_due, lowest_due};
+
+use lload_names::NoMemory;
+use std::alloc::Global;
+use std::collections::BTreeMap;
+use std::marker::Model;
+
+/// The identifiers that wait, each with the moment from which it is counted (milliseconds), and the timeout of all
+/// (seconds, 0 for none).
+#[derive(Drop)]
+pub struct Deadlines {
+    timeout: u32,
+    moments: BTreeMap<u32, u64>,
+}
+
+impl Model for Deadlines {
+    ghost use Rattle.op_deadlines.specs.Due.{Waiting};
+
+    ghost Value = { Waiting };
+
+    ghost view = { λ d. record { timeout = d.timeout; moments = d.moments.entries } };
+}
+
+impl Deadlines {
+    /// No identifier waits. `timeout` is in seconds; with 0 nothing is ever due. It takes no memory.
+    pub fn new(alloc: Global, timeout: u32) -> Deadlines
+        ensures { result ≡ record { timeout = timeout; moments = [] } }
+    {
+        Deadlines {
+            timeout,
+            moments: BTreeMap::new(alloc),
+        }
+    }
+
+    /// The identifier waits from the moment `now` on, in milliseconds. For want of memory nothing changes.
+    pub fn start(&mut self, id: u32, now: u64) -> Result<(), NoMemory>
+        ensures started { OnOk result (self.new ≡ record { timeout = self.old.timeout; moments = insert_entry nat_cmp self.old.moments id now }) }
+        ensures err { OnErr result (self.new ≡ self.old) }
+    {
+        self.moments.insert(id, now)?;
+        Ok(())
+    }
+
+    /// The identifier is counted from the moment `now` on, in milliseconds. Where it doesn't wait, nothing changes.
+    /// It takes no memory.
+    pub fn touch(&mut self, id: u32, now: u64)
+        ensures touched { self.new ≡ record { timeout = self.old.timeout; moments = set_value (is_at (nat_cmp id)) self.old.moments now } }
+    {
+        if let Some(moment) = self.moments.get_mut(&id) {
+            *moment = now;
+        }
+    }
+
+    /// The identifier waits no more. Where it doesn't wait, nothing changes. It takes no memory.
+    pub fn stop(&mut self, id: u32)
+        ensures stopped { self.new ≡ record { timeout = self.old.timeout; moments = remove_entry (is_at (nat_cmp id)) self.old.moments } }
+    {
+        self.moments.remove(&id);
+    }
+
+    /// The lowest identifier that is due at the moment `now`, in milliseconds; `None` exactly where none is. It takes
+    /// no memory.
+    pub fn first_due(&self, now: u64) -> Option<u32>
+        ensures lowest { result ≡ lowest_due self.now.timeout now self.now.moments }
+    {
+        for (id, moment) in self.moments.iter() {
+            if is_past(self.timeout, *moment, now) {
+                return Some(*id);
+            }
+        }
+        None
+    }
+}
+
+/// Whether what is counted from a moment is due at `now`, both in milliseconds, with a timeout in seconds.
+fn is_past(timeout: u32, moment: u64, now: u64) -> bool
+    ensures { result ≡ is_due timeout now moment }
+{
+    timeout != 0 && now >= moment && now - moment >= 1000 * timeout as u64
+}

@@ -1,0 +1,14 @@
+use super::*;
+use std::test::Fail;
+
+#[test]
+fn an_answer_puts_the_deadline_off(rt: HostRuntime) -> Result<(), Fail> {
+    let mut deadlines = Deadlines::new(rt.alloc(), 30);
+    deadlines.start(7, 0)?;
+    deadlines.touch(7, 20000);
+    assert_eq!(rt; deadlines.first_due(49999), None);
+    assert_eq!(rt; deadlines.first_due(50000), Some(7));
+    deadlines.stop(7);
+    assert_eq!(rt; deadlines.first_due(50000), None);
+    Ok(())
+}
