@@ -1,0 +1,14 @@
+pub mod DeleteFacts
+pub mod RowLaws
+pub mod Rows
+pub mod RowNames
+pub mod Numbers
+pub mod ClientOperations
+pub mod ClientSteps
+pub mod ClientRounds
+pub mod ConnectionRounds
+pub mod SentRounds
+pub mod SentSteps
+pub mod Promises
+pub mod Standing
+pub mod RoundsMade
