@@ -1,0 +1,18 @@
+//! The text of scripts and journals (this project's own): a line of a script is read as a command, and an entry of a
+//! journal is written as a line.
+//!
+//! The layers above may rely on this: a line is read exactly as the grammar of `lload_spec` says, and the line of an
+//! entry is exactly the text that it gives.
+#![tactic(auto)]
+
+mod entry;
+mod numbers;
+mod read;
+mod words;
+
+pub use entry::entry_line;
+pub use lload_names::Command;
+pub use read::{LineFault, read_line};
+
+#[cfg(test)]
+mod tests;
