@@ -1,0 +1,10 @@
+pub mod Histories
+pub mod FedBytes
+pub mod Rounds
+pub mod Waiting
+pub mod Steps
+pub mod Standing
+pub mod Begins
+pub mod Feeds
+pub mod Settles
+pub mod Results
