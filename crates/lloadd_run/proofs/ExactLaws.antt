@@ -138,27 +138,28 @@ pub record Goes (short long behind_short behind_long : List (List ℕ)) : Type 0
   pub long_is : long ≡ short ++ next ∷ more
   pub behind_is : behind_short ≡ next ∷ (more ++ behind_long)
 
--- two fronts of one list: the second goes beyond the first, or both are one, or the first goes beyond the second
-Fronts : (as' behind_as bs behind_bs : List (List ℕ)) → Type 0
-Fronts as' behind_as bs behind_bs = Goes as' bs behind_as behind_bs ⊎ (((bs ≡ as') × (behind_as ≡ behind_bs)) ⊎ Goes bs as' behind_bs behind_as)
+-- two fronts of one list, each with what is behind it: the second goes beyond the first, or both are one, or the first
+-- goes beyond the second
+abbrev Fronts : (one behind_one two behind_two : List (List ℕ)) → Type 0
+Fronts one behind_one two behind_two = Goes one two behind_one behind_two ⊎ (((two ≡ one) × (behind_one ≡ behind_two)) ⊎ Goes two one behind_two behind_one)
 
 goes_under : (x : List ℕ) (short long behind_short behind_long : List (List ℕ)) → Goes short long behind_short behind_long → Goes (x ∷ short) (x ∷ long) behind_short behind_long
 goes_under x short long behind_short behind_long g = record { next = g.next; more = g.more; long_is = ap (λ l. x ∷ l) g.long_is; behind_is = g.behind_is }
 
-fronts : (as' behind_as bs behind_bs : List (List ℕ)) → as' ++ behind_as ≡ bs ++ behind_bs → Goes as' bs behind_as behind_bs ⊎ (((bs ≡ as') × (behind_as ≡ behind_bs)) ⊎ Goes bs as' behind_bs behind_as)
-fronts [] behind_as [] behind_bs e = inr (inl (refl, e))
-fronts [] behind_as (b ∷ bs) behind_bs e = inl (record { next = b; more = bs; long_is = refl; behind_is = e })
-fronts (a ∷ as') behind_as [] behind_bs e = inr (inr (record { next = a; more = as'; long_is = refl; behind_is = sym e }))
-fronts (a ∷ as') behind_as (b ∷ bs) behind_bs e =
-    let first : a ≡ b = cc in
-    let others : as' ++ behind_as ≡ bs ++ behind_bs = cc in
-    elim (fronts as' behind_as bs behind_bs others) as (λ f. Goes (a ∷ as') (b ∷ bs) behind_as behind_bs ⊎ (((b ∷ bs ≡ a ∷ as') × (behind_as ≡ behind_bs)) ⊎ Goes (b ∷ bs) (a ∷ as') behind_bs behind_as)) [
-      | inl g ↦ inl (subst (λ x. Goes (a ∷ as') (x ∷ bs) behind_as behind_bs) first (goes_under a as' bs behind_as behind_bs g))
-      | inr rest ↦ elim rest as (λ f. Goes (a ∷ as') (b ∷ bs) behind_as behind_bs ⊎ (((b ∷ bs ≡ a ∷ as') × (behind_as ≡ behind_bs)) ⊎ Goes (b ∷ bs) (a ∷ as') behind_bs behind_as)) [
-        | inl same ↦ inr (inl (ap (λ x. x ∷ bs) (sym first) ∙ ap (λ l. a ∷ l) same.0, same.1))
-        | inr g ↦ inr (inr (subst (λ x. Goes (x ∷ bs) (a ∷ as') behind_bs behind_as) first (goes_under a bs as' behind_bs behind_as g)))
-      ]
-    ]
+-- both fronts begin with a line
+fronts_under : (x y : List ℕ) (one behind_one two behind_two : List (List ℕ)) → x ≡ y → Fronts one behind_one two behind_two → Fronts (x ∷ one) behind_one (y ∷ two) behind_two
+fronts_under x y one behind_one two behind_two same (inl g) = inl (subst (λ z. Goes (x ∷ one) (z ∷ two) behind_one behind_two) same (goes_under x one two behind_one behind_two g))
+fronts_under x y one behind_one two behind_two same (inr (inl both)) = inr (inl (ap (λ z. z ∷ two) (sym same) ∙ ap (λ l. x ∷ l) both.0, both.1))
+fronts_under x y one behind_one two behind_two same (inr (inr g)) = inr (inr (subst (λ z. Goes (z ∷ two) (x ∷ one) behind_two behind_one) same (goes_under x two one behind_two behind_one g)))
+
+fronts : (one behind_one two behind_two : List (List ℕ)) → one ++ behind_one ≡ two ++ behind_two → Fronts one behind_one two behind_two
+fronts [] behind_one [] behind_two e = inr (inl (refl, e))
+fronts [] behind_one (y ∷ two) behind_two e = inl (record { next = y; more = two; long_is = refl; behind_is = e })
+fronts (x ∷ one) behind_one [] behind_two e = inr (inr (record { next = x; more = one; long_is = refl; behind_is = sym e }))
+fronts (x ∷ one) behind_one (y ∷ two) behind_two e =
+    let first : x ≡ y = cc in
+    let others : one ++ behind_one ≡ two ++ behind_two = cc in
+    fronts_under x y one behind_one two behind_two first (fronts one behind_one two behind_two others)
 
 -- what is wrong behind the commands before a wrong line, where that line is known
 wrong_next : (limit : ℕ) (script : List Command) (rest : List (List ℕ)) (next : List ℕ) (more : List (List ℕ)) (text : List ℕ) → rest ≡ next ∷ more → IsWrongBehind limit script rest text → (h : List Line) → commands h ≡ script → Follows plain h → HasKept h → refuses h (command_of next) ≡ true
