@@ -1,6 +1,6 @@
 -- Laws of the definitions, as statements.
 use Rattle.std.specs.Prelude.{◌≡◌, ℕ, ◌+◌, ◌^◌, ◌<◌, ◌≤◌, ◌↔◌, List, ◌++◌, length, slice_index, Some}
-use Rattle.ldap_spec.specs.Messages.{Message, IsMessage, Spells, SpellsWithin, canonical, message_of}
+use Rattle.ldap_spec.specs.Messages.{Message, IsMessage, Spells, SpellsWithin, canonical, message_of, message_within}
 use Rattle.ldap_spec.specs.Streams.{read, Whole, Short}
 
 -- each is an octet
@@ -14,6 +14,10 @@ CanonicalSpells = (m : Message) → IsMessage m → length m.rest + 6 < 2 ^ 32 �
 -- the message that is computed of some octets is the one that they spell
 abbrev pub ComputesSpelled : Type 0
 ComputesSpelled = (bytes : List ℕ) (m : Message) → AreOctets bytes → (message_of bytes ≡ Some m) ↔ Spells bytes m
+
+-- and the one that is computed of them within a limit is the one that they spell within it
+abbrev pub ComputesSpelledWithin : Type 0
+ComputesSpelledWithin = (limit : ℕ) (bytes : List ℕ) (m : Message) → AreOctets bytes → (message_within limit bytes ≡ Some m) ↔ SpellsWithin limit bytes m
 
 -- where two spellings stand at the front of the same bytes, they are one: none is a proper prefix of another
 abbrev pub OneSpelling : Type 0

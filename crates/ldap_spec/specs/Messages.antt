@@ -1,5 +1,5 @@
 -- LDAP messages and their spellings (RFC 4511, sections 4.1.1 and 5.1).
-use Rattle.std.specs.Prelude.{◌≡◌, ◌≢◌, ℕ, ◌^◌, ◌<◌, ◌≤◌, ◌==◌, if◌then◌else◌, List, [], ◌∷◌, ◌++◌, length, Option, Some, None, IsSome, is_some}
+use Rattle.std.specs.Prelude.{◌≡◌, ◌≢◌, ℕ, ◌^◌, ◌<◌, ◌≤◌, ◌==◌, nat_le, if◌then◌else◌, List, [], ◌∷◌, ◌++◌, length, Option, Some, None, IsSome, is_some}
 use Rattle.ldap_spec.specs.Elements.{elements, first_tagged, length_of, integer_of, written, shortest_integer}
 
 -- a message: its identifier, and the operation with what stands behind it
@@ -50,3 +50,7 @@ message_of_contents contents = elim (first_tagged 2 contents) [ None ↦ None | 
 -- the message that the bytes spell, as all of them
 abbrev pub message_of : List ℕ → Option Message
 message_of bytes = elim (first_tagged 48 bytes) [ None ↦ None | Some e ↦ if length e.behind == 0 then message_of_contents e.contents else None ]
+
+-- the same, where its contents have at most so many octets
+abbrev pub message_within : ℕ → List ℕ → Option Message
+message_within limit bytes = elim (first_tagged 48 bytes) [ None ↦ None | Some e ↦ if nat_le (length e.contents) limit then message_of bytes else None ]

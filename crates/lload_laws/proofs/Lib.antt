@@ -2,3 +2,6 @@ pub mod ListLaws
 pub mod FamilyGrowth
 pub mod ClientGrowth
 pub mod ConnectionGrowth
+pub mod ClientSums
+pub mod ClientChoices
+pub mod ClientBinding

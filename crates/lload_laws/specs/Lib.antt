@@ -1,3 +1,4 @@
 pub mod FamilyGrowth
 pub mod ClientGrowth
 pub mod ConnectionGrowth
+pub mod ClientBinding

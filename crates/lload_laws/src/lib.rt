@@ -3,10 +3,12 @@
 //! The functions have empty bodies, and their contracts are the laws. The layers above append entries to the lists
 //! of their parts, and prove what is promised of the longer list from what held of the shorter one by these laws:
 //! operations, Outs and ends of a client's list, Sent entries, answers and identifiers of a connection's list, and
-//! the parts of a journal.
+//! the parts of a journal. What a client is bound to by its list is what it is bound to by the calls that its part
+//! makes of the list, entry by entry.
 #![tactic(auto)]
 
 ghost use Rattle.lload_laws.specs.ClientGrowth.{OperationsGrow, OutsGrow, AnyGrows, EndingGrows, SomeEntryGrows, OwnNames, NoneBeyond, NoneAtZero, SameOperations, NewOperation, OldOperations, CountRises, CountStays, AllOperationsGrow, HoldsOfNamed, NamedIsThere};
+ghost use Rattle.lload_laws.specs.ClientBinding.{BoundByCalls};
 ghost use Rattle.lload_laws.specs.ConnectionGrowth.{SendingsGrow, AnswersGrow, GivenCountGrows};
 ghost use Rattle.lload_laws.specs.FamilyGrowth.{PartsAppend, ClientsAppend, ConnectionsAppend};
 
@@ -58,4 +60,10 @@ pub fn connections_grow()
     ensures sendings { SendingsGrow }
     ensures answers { AnswersGrow }
     ensures identifiers { GivenCountGrows }
+{}
+
+/// What a client is bound to by its list, at each place and at each moment, is what it is bound to by the calls that the
+/// list comes to: a choice of a live operation whose action binds, each end of a chosen write, and each Bind.
+pub fn clients_are_bound_by_calls()
+    ensures same { BoundByCalls }
 {}

@@ -18,8 +18,8 @@ pub use body::{Body, NoMemory, Word};
 pub use command::Command;
 pub use listed::Listed;
 pub use names::{
-    Answer, Bound, ConnKind, EndWhy, Entry, Letter, OpKind, OpName, PartName, Posted, Refusal,
-    Want, What,
+    Answer, Bound, ConnKind, EndWhy, Entry, Hold, Letter, OpKind, OpName, PartName, Posted,
+    Refusal, Want, What,
 };
 pub use plans::{BackendPlan, BackendPlans, DeskPlan, Place, TierKind, TierPlan};
 

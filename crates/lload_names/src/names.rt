@@ -48,6 +48,16 @@ pub enum Bound {
     Conn(u32),
 }
 
+/// How an operation binds later ones of its client, once it was given a connection: to the backend while it is live
+/// and for a time behind, to the backend, or to the connection itself (`write_coherence`, `restrict_exop` and
+/// `restrict_control` in lloadd.conf(5)).
+#[derive(Clone, Copy, Debug, PartialEq, Eq, Drop)]
+pub enum Hold {
+    Write,
+    Backend,
+    Connection,
+}
+
 /// The connection that a request asks for.
 #[derive(Clone, Copy, Debug, PartialEq, Eq, Drop)]
 pub struct Want {

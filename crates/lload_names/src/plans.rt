@@ -100,7 +100,7 @@ impl DeskPlan {
     }
 
     /// How many places there are; the largest number stands for it and all above it.
-    fn place_count(&self) -> u64
+    pub fn place_count(&self) -> u64
         ensures { result ≡ min (place_count self.now) (2 ^ 64 - 1) }
     {
         let mut count = 0u64;

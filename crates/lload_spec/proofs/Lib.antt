@@ -1,2 +1,4 @@
 pub mod Growth
+pub mod PickLemmas
 pub mod Texts
+pub mod Pushed

@@ -129,7 +129,7 @@ Makes s before _ piece = ⊥
 
 -- a line that stands where it is, made what its command makes, and left each part with a prefix of its messages taken
 pub record Obeys (s : Settings) (before : List Line) (line : Line) : Type 0 where
-  pub stood : IsTrue (stands before line.command)
+  pub stood : IsTrue (stands s before line.command)
   pub made : Makes s before line.command line.piece
   pub read : EachHasRead s (commands before ++ line.command ∷ []) (journal before ++ line.piece)
 

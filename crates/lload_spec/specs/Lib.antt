@@ -9,7 +9,11 @@ pub mod Fifo
 pub mod Identifiers
 pub mod Identity
 pub mod Binding
+pub mod Picks
+pub mod BindingCalls
+pub mod ClientCalls
 pub mod Order
+pub mod PickLaws
 pub mod Right
 pub mod OneEach
 pub mod FirstCheck

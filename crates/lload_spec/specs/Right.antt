@@ -12,10 +12,14 @@ use Rattle.lload_names.specs.declared.names.Bound.{Bound}
 use Rattle.lload_names.specs.declared.names.Bound.TheVariants.{Free, Backend as ToBackend, Conn as ToConnection}
 use Rattle.lload_names.specs.declared.names.Letter.{Letter}
 use Rattle.lload_names.specs.declared.names.Letter.TheVariants.{Returned, Ended, IsUp, IsRetired, IsDown}
-use Rattle.lload_spec.specs.Lists.{passes, last, first_passes, each_split}
+use Rattle.lload_names.specs.declared.plans.BackendPlan.{BackendPlan}
+use Rattle.lload_names.specs.declared.plans.TierPlan.{TierPlan}
+use Rattle.lload_names.specs.Plans.{backends_of}
+use Rattle.lload_spec.specs.Lists.{passes, first, last, first_passes, each_split}
 use Rattle.lload_spec.specs.Journal.{same_op, same_answer}
 use Rattle.lload_spec.specs.Entries.{Named, asked, chose, heard, word_of}
-use Rattle.lload_spec.specs.Settings.{Settings, Tier, RoundRobin, Weighted, BestOf, Backend, backends_of, is_of_kind, is_of_backend, backend_of}
+use Rattle.lload_spec.specs.Settings.{Settings, is_of_kind, is_of_backend, backend_of}
+use Rattle.lload_spec.specs.Picks.{tier_pick}
 use Rattle.lload_spec.specs.Order.{order, place_order, first_at, mean_latency, go_connection}
 
 -- the connection that a letter says is up
@@ -71,19 +75,19 @@ abbrev pub is_within_limit : ℕ → ℕ → Bool
 is_within_limit limit n = limit == 0 || nat_lt n limit
 
 -- whether a connection of a backend and kind is under the limits: a bind connection takes one operation at a time
-abbrev pub has_room : Settings → List Entry → Backend → ConnKind → ℕ → Bool
-has_room s place b kind n = is_within_limit (elim kind [ Regular ↦ b.connection_max_pending | Bind ↦ 1 ]) (pending_on place n) && is_within_limit b.max_pending (pending_at s place b.number)
+abbrev pub has_room : Settings → List Entry → BackendPlan → ConnKind → ℕ → Bool
+has_room s place b kind n = is_within_limit (elim kind [ Regular ↦ b.conn_max_pending | Bind ↦ 1 ]) (pending_on place n) && is_within_limit b.max_pending (pending_at s place b.number)
 
 -- the eligible connections of a backend and kind: viable and under the limits
-abbrev pub eligible : Settings → List Entry → ConnKind → Backend → List ℕ
+abbrev pub eligible : Settings → List Entry → ConnKind → BackendPlan → List ℕ
 eligible s place kind b = filter (λ n. is_of_backend s b.number n && has_room s place b kind n) (viable s place kind)
 
 -- the connection that stands for a backend: by the order of its places, the greatest of the first place that has an eligible one
-abbrev pub connection_for : Settings → List Entry → ConnKind → Backend → Option ℕ
+abbrev pub connection_for : Settings → List Entry → ConnKind → BackendPlan → Option ℕ
 connection_for s place kind b = first_at s (eligible s place kind b) (place_order s place b.number kind)
 
 -- the answers of the backends that have an eligible connection, in order
-abbrev pub candidates : Settings → List Entry → ConnKind → List Backend → List Answer
+abbrev pub candidates : Settings → List Entry → ConnKind → List BackendPlan → List Answer
 candidates _ _ _ [] = []
 candidates s place kind (b ∷ bs) = elim (connection_for s place kind b) [ None ↦ [] | Some n ↦ Go n b.number ∷ [] ] ++ candidates s place kind bs
 
@@ -92,42 +96,31 @@ abbrev pub mean_of : Settings → List Entry → Answer → ℕ
 mean_of s place (Go n b) = mean_latency s place b
 mean_of s place _ = 0
 
--- the first of these answers, or Busy
-abbrev pub first_of_all : List Answer → Answer
-first_of_all [] = Busy
-first_of_all (a ∷ more) = a
-
--- of the first two of these answers the one with the lower mean latency, at a tie the first; or Busy
-abbrev pub best_of_two : Settings → List Entry → List Answer → Answer
-best_of_two s place [] = Busy
-best_of_two s place (a ∷ []) = a
-best_of_two s place (a ∷ b ∷ more) = if nat_lt (mean_of s place b) (mean_of s place a) then b else a
+-- an answer, or Busy where there is none
+abbrev pub or_busy : Option Answer → Answer
+or_busy None = Busy
+or_busy (Some a) = a
 
 -- the pick of a tier: its first backend in order with an eligible connection, or the better of the first two; Busy where there is none
-abbrev pub pick : Settings → List Entry → Tier → ConnKind → ℕ → Answer
-pick s place t kind w =
-    elim t.shape [
-      | RoundRobin ↦ first_of_all (candidates s place kind (order place t w))
-      | Weighted ↦ first_of_all (candidates s place kind (order place t w))
-      | BestOf ↦ best_of_two s place (candidates s place kind (order place t w))
-    ]
+abbrev pub pick : Settings → List Entry → TierPlan → ConnKind → ℕ → Answer
+pick s place t kind w = or_busy (tier_pick t.kind (mean_of s place) (candidates s place kind (order place t w)))
 
 -- whether a tier has a viable connection of a kind
-abbrev pub is_viable_tier : Settings → List Entry → ConnKind → Tier → Bool
+abbrev pub is_viable_tier : Settings → List Entry → ConnKind → TierPlan → Bool
 is_viable_tier s place kind t = list_any (λ b. list_any (is_of_backend s b.number) (viable s place kind)) t.backends
 
 -- the pick of the first of these tiers that has a viable connection, Unavailable where none has
-abbrev pub pick_of_tiers : Settings → List Entry → ConnKind → ℕ → List Tier → Answer
+abbrev pub pick_of_tiers : Settings → List Entry → ConnKind → ℕ → List TierPlan → Answer
 pick_of_tiers _ _ _ _ [] = Unavailable
 pick_of_tiers s place kind w (t ∷ ts) = elim (is_viable_tier s place kind t) [ true ↦ pick s place t kind w | false ↦ pick_of_tiers s place kind w ts ]
 
 -- the backends that are this one
-abbrev pub backends_numbered : Settings → ℕ → List Backend
+abbrev pub backends_numbered : Settings → ℕ → List BackendPlan
 backends_numbered s number = filter (λ b. b.number == number) (backends_of s.tiers)
 
 -- the answer for one backend in place of a tier
 abbrev pub pick_of_backend : Settings → List Entry → ConnKind → ℕ → Answer
-pick_of_backend s place kind number = if list_any (is_of_backend s number) (viable s place kind) then first_of_all (candidates s place kind (backends_numbered s number)) else Unavailable
+pick_of_backend s place kind number = if list_any (is_of_backend s number) (viable s place kind) then or_busy (first (candidates s place kind (backends_numbered s number))) else Unavailable
 
 -- whether a connection is eligible
 abbrev pub is_eligible : Settings → List Entry → ConnKind → ℕ → Bool

@@ -1,5 +1,5 @@
 -- Nothing is left to be taken: what holds of a family where no letter waits and no part has a message to take.
-use Rattle.std.specs.Prelude.{ℕ, Bool, true, false, ◌==◌, ◌&&◌, ◌||◌, not, if◌then◌else◌, List, [], ◌∷◌, length, filter, Some, None, IsTrue, is_some, is_none}
+use Rattle.std.specs.Prelude.{ℕ, Bool, true, false, ◌==◌, ◌&&◌, ◌||◌, not, if◌then◌else◌, List, [], ◌∷◌, length, filter, Some, None, IsTrue, is_some}
 use Rattle.std.specs.List.{list_any, list_all}
 use Rattle.ldap_spec.specs.Responses.{has_code}
 use Rattle.lload_names.specs.declared.names.Entry.{Entry}
@@ -17,7 +17,7 @@ use Rattle.lload_spec.specs.Settings.{Settings, is_of_kind}
 use Rattle.lload_spec.specs.Journal.{Family, same_op}
 use Rattle.lload_spec.specs.Entries.{chosen, chose, heard, is_missed, is_up, is_retired, is_down}
 use Rattle.lload_spec.specs.Operations.{Operation, all_operations, is_of, is_live_at, is_ended_by_client, is_final_for, outs}
-use Rattle.lload_spec.specs.Answers.{Sending, sendings, all_sendings, sendings_of, answers, closing_at, final_answer, is_open}
+use Rattle.lload_spec.specs.Answers.{Sending, sendings, all_sendings, sendings_of, answers, final_answer, is_open}
 use Rattle.lload_spec.specs.Fifo.{refusals, is_refused_with}
 use Rattle.lload_spec.specs.OneEach.{of_operation}
 use Rattle.lload_spec.specs.CausedUp.{is_holding, holder}
@@ -34,13 +34,17 @@ is_refused_by F which o = list_any (λ r. is_refused_with F r o) which
 abbrev pub is_dealt_with : Family → Operation → Bool
 is_dealt_with F o = not (length (sendings_of F o.name) == 0) || is_refused_by F refusals o || is_ended_by_client o
 
--- whether a Bind's success is still kept back: its client got all answers but the final one, and nothing settles it yet
+-- whether a Bind's success is still kept back: its client got all answers but the final one, and the Bind is open
 abbrev pub is_kept_back : Settings → Operation → Sending → Bool
-is_kept_back s o sent = is_of Bind o && is_none (closing_at s o sent) && are_same (outs o) (filter (λ r. not (is_final_for o.request r)) (answers o sent)) && is_some (final_answer o sent)
+is_kept_back s o sent = is_of Bind o && is_open s o sent && are_same (outs o) (filter (λ r. not (is_final_for o.request r)) (answers o sent)) && is_some (final_answer o sent)
+
+-- whether the client got all answers, and the final one is among them or the operation is still open
+abbrev pub is_told_answers : Settings → Operation → Sending → Bool
+is_told_answers s o sent = are_same (outs o) (answers o sent) && (is_some (final_answer o sent) || is_open s o sent)
 
 -- where the client didn't end the operation, it got all answers, or a refusal for a loss, or a success is kept back
 abbrev pub is_told_all : Settings → Family → Operation → Sending → Bool
-is_told_all s F o sent = is_ended_by_client o || are_same (outs o) (answers o sent) || is_refused_by F (C4 ∷ C5 ∷ C9 ∷ []) o || is_kept_back s o sent
+is_told_all s F o sent = is_ended_by_client o || is_told_answers s o sent || is_refused_by F (C4 ∷ C5 ∷ C9 ∷ []) o || is_kept_back s o sent
 
 -- where the client ended the operation, which isn't a Bind, it isn't open upstream: it was abandoned, settled, expired or lost
 abbrev pub is_told_upstream : Settings → Operation → Sending → Bool

@@ -1,16 +1,16 @@
 -- Which lines of a script stand where they are (this project's own). A line whose form isn't built yet doesn't stand:
--- for now there are client 1, which sends Deletes, and connection 1, which answers them, both in short canonical
--- spellings.
-use Rattle.std.specs.Prelude.{ℕ, suc, Bool, true, false, ◌==◌, ◌&&◌, ◌||◌, not, nat_le, if◌then◌else◌, List, [], ◌∷◌, length, filter, Option, Some, None}
+-- for now there are client 1, which sends Deletes, and connection 1, which answers them, each message fed whole and by
+-- itself.
+use Rattle.std.specs.Prelude.{ℕ, suc, Bool, true, false, ◌==◌, ◌&&◌, ◌||◌, not, List, [], ◌∷◌, length, filter}
 use Rattle.std.specs.List.{list_any}
-use Rattle.std.specs.Str.{bytes_eq}
 use Rattle.ldap_spec.specs.Elements.{first_tagged}
-use Rattle.ldap_spec.specs.Messages.{Message, message_of, canonical}
+use Rattle.ldap_spec.specs.Messages.{Message, message_of, message_within}
 use Rattle.lload_names.specs.declared.names.Entry.{Entry}
 use Rattle.lload_names.specs.declared.names.PartName.TheVariants.{Client, Up as Connection}
 use Rattle.lload_names.specs.declared.command.Command.{Command}
 use Rattle.lload_names.specs.declared.command.Command.TheVariants.{ClientArrives, ClientBytes, UpReady, UpBytes, Settle}
 use Rattle.lload_spec.specs.Lists.{passes}
+use Rattle.lload_spec.specs.Settings.{Settings}
 use Rattle.lload_spec.specs.Journal.{of_part}
 use Rattle.lload_spec.specs.Entries.{is_arrived, is_linked, sent_message}
 use Rattle.lload_spec.specs.Operations.{live_operations}
@@ -26,10 +26,6 @@ has_arrived c J = list_any (λ e. is_arrived e.what) (of_part (Client c) J)
 
 abbrev pub was_linked : ℕ → List Entry → Bool
 was_linked u J = list_any (λ e. is_linked e.what) (of_part (Connection u) J)
-
--- the message of which all of the bytes are the canonical spelling, with contents of at most 127 octets
-abbrev pub short_message : List ℕ → Option Message
-short_message bytes = elim (message_of bytes) [ None ↦ None | Some m ↦ if bytes_eq (canonical m) bytes && nat_le (length bytes) 129 then Some m else None ]
 
 -- whether the bytes are one whole element with this tag
 abbrev pub is_one_element : ℕ → List ℕ → Bool
@@ -70,11 +66,12 @@ is_new_delete before m = not (m.id == 0) && is_one_element 0x4A m.rest && not (i
 abbrev pub is_delete_answer : List Line → Message → Bool
 is_delete_answer before m = is_one_element 0x6B m.rest && is_given 1 m.id (journal before)
 
--- whether a command stands behind these lines
-abbrev pub stands : List Line → Command → Bool
-stands before (ClientArrives n) = n == 1 && n == suc (arrivals (journal before))
-stands before (ClientBytes n bytes) = n == 1 && has_arrived n (journal before) && passes (is_new_delete before) (short_message bytes)
-stands before (UpReady n) = n == 1 && not (was_linked n (journal before))
-stands before (UpBytes n bytes) = n == 1 && was_linked n (journal before) && passes (is_delete_answer before) (short_message bytes)
-stands before Settle = true
-stands before _ = false
+-- whether a command stands behind these lines; bytes stand where all of them spell a message, in any form of its
+-- lengths and of its identifier, within the limit of the part that they are fed to
+abbrev pub stands : Settings → List Line → Command → Bool
+stands s before (ClientArrives n) = n == 1 && n == suc (arrivals (journal before))
+stands s before (ClientBytes n bytes) = n == 1 && has_arrived n (journal before) && passes (is_new_delete before) (message_within s.max_incoming_client bytes)
+stands s before (UpReady n) = n == 1 && not (was_linked n (journal before))
+stands s before (UpBytes n bytes) = n == 1 && was_linked n (journal before) && passes (is_delete_answer before) (message_within s.max_incoming_upstream bytes)
+stands s before Settle = true
+stands s before _ = false

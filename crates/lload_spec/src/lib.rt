@@ -11,6 +11,7 @@ ghost use Rattle.lload_spec.specs.Given.{given};
 ghost use Rattle.lload_spec.specs.Good.{Good};
 ghost use Rattle.lload_spec.specs.Laws.{AnswersMayGrow, EndStays, LooksBack};
 ghost use Rattle.lload_spec.specs.Linked.{Linked};
+ghost use Rattle.lload_spec.specs.PickLaws.{EqualMeansPickFirst, OrderPermutes, WeightedPermutes};
 ghost use Rattle.lload_spec.specs.Plain.{plain};
 ghost use Rattle.lload_spec.specs.Settled.{Settled};
 ghost use Rattle.lload_spec.specs.Strict.{Strict};
@@ -36,4 +37,15 @@ pub fn the_end_stays()
 /// The text of a journal with more entries behind it is the text of the one and then the text of the others.
 pub fn texts_follow()
     ensures { TextsFollow }
+{}
+
+/// The order in which a tier's backends are tried has each of them once.
+pub fn each_backend_is_tried_once()
+    ensures weighted { WeightedPermutes }
+    ensures order { OrderPermutes }
+{}
+
+/// With equal mean latencies bestof picks the backend that weighted picks.
+pub fn equal_means_pick_as_weighted()
+    ensures { EqualMeansPickFirst }
 {}
