@@ -1,8 +1,13 @@
+pub mod Bindings
 pub mod Octets
 pub mod Entries
 pub mod Configurations
 pub mod Deletes
-pub mod WrongDeletes
 pub mod Journals
-pub mod WrongJournals
+pub mod Choices
+pub mod Binds
+pub mod Connections
+pub mod Picks
+pub mod Refusals
+pub mod Ends
 pub mod Letters

@@ -3,10 +3,11 @@
 ghost use Rattle.std.specs.Prelude.{◌≡◌, ◌∷◌, ◌++◌, [], IsFalse, IsTrue, None, Some, codes, take};
 ghost use Rattle.lload_names.specs.declared.command.Command.TheVariants.{ClientArrives, ClientBytes, Settle, Tick, UpBytes, UpReady};
 ghost use Rattle.lload_spec.specs.Lists.{each_entry};
+ghost use Rattle.lload_spec.specs.Plain.{plain};
 ghost use Rattle.lload_spec.specs.Script.{command_of};
 ghost use Rattle.lload_spec.specs.Standing.{stands};
 ghost use Rattle.spec_examples.specs.Deletes.{delete_history};
-ghost use Rattle.spec_examples.specs.Octets.{delete_5, delete_6, done_1, done_2, search_7};
+ghost use Rattle.spec_examples.specs.Octets.{delete_body, delete_done, delete_5, delete_6, done_1, done_2, search_7};
 
 /// The lines of one Delete there and back.
 pub fn lines_are_read()
@@ -39,26 +40,35 @@ pub fn lines_are_refused()
 
 /// Each line of one Delete there and back stands behind those before it.
 pub fn lines_stand()
-    ensures { IsTrue (each_entry (λ before line. stands before line.command) delete_history) }
+    ensures { IsTrue (each_entry (λ before line. stands plain before line.command) delete_history) }
 {}
 
 /// Lines that don't stand where they are.
 pub fn lines_do_not_stand()
-    ensures second_client_first { IsFalse (stands [] (ClientArrives 2)) }
-    ensures arrives_twice { IsFalse (stands (take 3 delete_history) (ClientArrives 1)) }
-    ensures bytes_before_arrival { IsFalse (stands (take 2 delete_history) (ClientBytes 1 delete_5)) }
-    ensures ready_twice { IsFalse (stands (take 1 delete_history) (UpReady 1)) }
-    ensures answer_before_ready { IsFalse (stands [] (UpBytes 1 done_1)) }
-    ensures tick { IsFalse (stands delete_history (Tick 5)) }
-    ensures search { IsFalse (stands (take 3 delete_history) (ClientBytes 1 search_7)) }
-    ensures identifier_in_use { IsFalse (stands (take 5 delete_history) (ClientBytes 1 delete_5)) }
-    ensures identifier_fed { IsFalse (stands (take 4 delete_history) (ClientBytes 1 delete_5)) }
-    ensures identifier_not_given { IsFalse (stands (take 5 delete_history) (UpBytes 1 done_2)) }
-    ensures cut_bytes { IsFalse (stands (take 3 delete_history) (ClientBytes 1 (take 9 delete_5))) }
+    ensures second_client_first { IsFalse (stands plain [] (ClientArrives 2)) }
+    ensures arrives_twice { IsFalse (stands plain (take 3 delete_history) (ClientArrives 1)) }
+    ensures bytes_before_arrival { IsFalse (stands plain (take 2 delete_history) (ClientBytes 1 delete_5)) }
+    ensures ready_twice { IsFalse (stands plain (take 1 delete_history) (UpReady 1)) }
+    ensures answer_before_ready { IsFalse (stands plain [] (UpBytes 1 done_1)) }
+    ensures tick { IsFalse (stands plain delete_history (Tick 5)) }
+    ensures search { IsFalse (stands plain (take 3 delete_history) (ClientBytes 1 search_7)) }
+    ensures identifier_in_use { IsFalse (stands plain (take 5 delete_history) (ClientBytes 1 delete_5)) }
+    ensures identifier_fed { IsFalse (stands plain (take 4 delete_history) (ClientBytes 1 delete_5)) }
+    ensures identifier_not_given { IsFalse (stands plain (take 5 delete_history) (UpBytes 1 done_2)) }
+    ensures cut_bytes { IsFalse (stands plain (take 3 delete_history) (ClientBytes 1 (take 9 delete_5))) }
+    ensures two_messages { IsFalse (stands plain (take 3 delete_history) (ClientBytes 1 (delete_5 ++ delete_6))) }
+    ensures indefinite_length { IsFalse (stands plain (take 3 delete_history) (ClientBytes 1 (0x30 ∷ 0x80 ∷ 0x02 ∷ 0x01 ∷ 0x05 ∷ (delete_body ++ 0x00 ∷ 0x00 ∷ [])))) }
+{}
+
+/// Another spelling of a message stands where its shortest spelling does.
+pub fn other_spellings_stand()
+    ensures long_length { IsTrue (stands plain (take 3 delete_history) (ClientBytes 1 (0x30 ∷ 0x84 ∷ 0x00 ∷ 0x00 ∷ 0x00 ∷ 0x08 ∷ 0x02 ∷ 0x01 ∷ 0x05 ∷ delete_body))) }
+    ensures long_integer { IsTrue (stands plain (take 3 delete_history) (ClientBytes 1 (0x30 ∷ 0x0A ∷ 0x02 ∷ 0x03 ∷ 0x00 ∷ 0x00 ∷ 0x05 ∷ delete_body))) }
+    ensures answer { IsTrue (stands plain (take 5 delete_history) (UpBytes 1 (0x30 ∷ 0x81 ∷ 0x0C ∷ 0x02 ∷ 0x01 ∷ 0x01 ∷ delete_done))) }
 {}
 
 /// An identifier that isn't in use any more stands again, and another one stands beside one in use.
 pub fn identifiers_stand_again()
-    ensures again { IsTrue (stands delete_history (ClientBytes 1 delete_5)) }
-    ensures beside { IsTrue (stands (take 5 delete_history) (ClientBytes 1 delete_6)) }
+    ensures again { IsTrue (stands plain delete_history (ClientBytes 1 delete_5)) }
+    ensures beside { IsTrue (stands plain (take 5 delete_history) (ClientBytes 1 delete_6)) }
 {}

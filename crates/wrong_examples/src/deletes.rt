@@ -12,11 +12,11 @@ ghost use Rattle.lload_spec.specs.OneEach.{each_own_reasoned};
 ghost use Rattle.lload_spec.specs.Plain.{plain};
 ghost use Rattle.lload_spec.specs.Right.{each_chosen_rightly};
 ghost use Rattle.lload_spec.specs.Strict.{each_success_known, the_desk_lives};
-ghost use Rattle.spec_examples.specs.WrongDeletes.{end_heard_early, identity_refused, return_heard, answer_before_any, answer_behind_end, answer_of_another, answer_to_another, answer_twice, answer_under_upstream_id, answer_unforwarded, bind_connection_wanted, drained_early, expired_without_timeout, gone_for_no_reason, identifier_left_out, identifier_twice, late_though_live, missed_while_up, moment_falls, needless_abandon, needlessly_busy, never_up, other_request, out_at_connection, out_at_desk, retired_early, sent_twice, sent_unchosen, stray_taken};
+ghost use Rattle.wrong_examples.specs.Deletes.{end_heard_early, identity_refused, return_heard, answer_before_any, answer_behind_end, answer_of_another, answer_to_another, answer_twice, answer_under_upstream_identifier, answer_unforwarded, bind_connection_wanted, drained_early, expired_without_timeout, gone_for_no_reason, identifier_left_out, identifier_twice, late_though_live, missed_while_up, moment_falls, needless_abandon, needlessly_busy, never_up, other_request, out_at_connection, out_at_desk, retired_early, sent_twice, sent_unchosen, stray_taken};
 
 /// Refused: answers that a client must not get.
 pub fn wrong_answers_are_refused()
-    ensures under_upstream_id { IsFalse (each_out_owned (family answer_under_upstream_id)) }
+    ensures under_upstream_identifier { IsFalse (each_out_owned (family answer_under_upstream_identifier)) }
     ensures twice { IsFalse (each_ended_once (family answer_twice)) }
     ensures twice_by_answers { IsFalse (each_answered (family answer_twice)) }
     ensures behind_end { IsFalse (each_ended_once (family answer_behind_end)) }
