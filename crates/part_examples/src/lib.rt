@@ -1,0 +1,12 @@
+//! The turns of the parts, computed on worked scripts: a small world plays each script by the parts' turns alone, and what
+//! it makes is what the script should make. Beside that there are letters that are fit and letters that aren't, and lists
+//! that a clause of their part's share refuses. Nothing rests on this crate.
+#![tactic(auto)]
+
+pub mod choices;
+pub mod fits;
+pub mod letters;
+pub mod promises;
+pub mod rows;
+pub mod shares;
+pub mod wrong_lists;

@@ -1,0 +1,217 @@
+-- What an upstream connection's list says at a place, as one record: the connection's part holds this, and its turns look
+-- at nothing else. A regular connection has no holder; a bind connection has one live Bind at most, and no own Bind.
+use Rattle.std.specs.Prelude.{ℕ, suc, Bool, true, false, ◌==◌, ◌&&◌, ◌||◌, not, if◌then◌else◌, List, [], ◌∷◌, ◌++◌, filter, flat_map, find, Option, Some, None, is_some, is_none}
+use Rattle.std.specs.List.{list_any}
+use Rattle.std.specs.Str.{bytes_eq}
+use Rattle.ldap_spec.specs.Messages.{Message}
+use Rattle.ldap_spec.specs.Kinds.{is_final, fits, same_kind, tag_of}
+use Rattle.ldap_spec.specs.Responses.{result_code, has_code}
+use Rattle.ldap_spec.specs.Bodies.{who_am_i, abandon}
+use Rattle.lload_names.specs.declared.names.Entry.{Entry}
+use Rattle.lload_names.specs.declared.names.OpName.{OpName}
+use Rattle.lload_names.specs.declared.names.OpKind.{OpKind}
+use Rattle.lload_names.specs.declared.names.OpKind.TheVariants.{Bind}
+use Rattle.lload_names.specs.declared.names.ConnKind.{ConnKind}
+use Rattle.lload_names.specs.declared.names.ConnKind.TheVariants.{Regular, Bind as BindKind}
+use Rattle.lload_names.specs.declared.names.Letter.{Letter}
+use Rattle.lload_names.specs.declared.names.Letter.TheVariants.{Forward}
+use Rattle.lload_names.specs.declared.names.What.{What}
+use Rattle.lload_names.specs.declared.names.What.TheVariants as what
+use Rattle.lload_spec.specs.Lists.{passes}
+use Rattle.lload_spec.specs.Settings.{Settings, is_of_kind, is_kind}
+use Rattle.lload_spec.specs.Journal.{same_op}
+use Rattle.lload_spec.specs.OneEach.{begins_with_bind, is_own_bind}
+use Rattle.lload_spec.specs.Linked.{Marked, Taken}
+
+-- a Bind's success that is kept back until its identity is known, and the identifier of the Who Am I that asks for it
+pub record Kept : Type 0 where
+  pub rest : List ℕ
+  pub who : Option ℕ
+
+-- a live operation: its identifier here, its name and kind, whether the identity behind its success is asked for, the
+-- moments of its Sent and of its last answer, and the answer that is kept back
+pub record UpRow : Type 0 where
+  pub id : ℕ
+  pub op : OpName
+  pub kind : OpKind
+  pub ask_who : Bool
+  pub sent : ℕ
+  pub answered : ℕ
+  pub kept : Option Kept
+
+-- the own Bind that waits for its answer: its identifier and moment
+pub record OwnWait : Type 0 where
+  pub id : ℕ
+  pub at : ℕ
+
+-- the connection's number and kind, the moment of its last entry, whether it is linked, up, retired and down, the next
+-- identifier, the live operations by rising identifier, the own Bind that waits; of a bind connection the operation that
+-- holds it, and the one that held it when it went down
+pub record ConnectionState : Type 0 where
+  pub number : ℕ
+  pub kind : ConnKind
+  pub moment : ℕ
+  pub linked : Bool
+  pub up : Bool
+  pub retired : Bool
+  pub down : Bool
+  pub next : ℕ
+  pub rows : List UpRow
+  pub own_bind : Option OwnWait
+  pub holder : Option OpName
+  pub freed : Option OpName
+
+-- the kind of a connection, by the plan
+abbrev pub kind_at : Settings → ℕ → ConnKind
+kind_at s u = if is_of_kind s BindKind u then BindKind else Regular
+
+-- of the empty list
+abbrev pub empty_connection : Settings → ℕ → ConnectionState
+empty_connection s u = record { number = u; kind = kind_at s u; moment = 0; linked = false; up = false; retired = false; down = false; next = 1; rows = []; own_bind = None; holder = None; freed = None }
+
+-- whether the connection is there
+abbrev pub is_there : ConnectionState → Bool
+is_there p = p.linked && not p.down
+
+-- whether it takes no further operations
+abbrev pub is_stopped : ConnectionState → Bool
+is_stopped p = p.retired || p.down
+
+abbrev pub is_bind : ConnectionState → Bool
+is_bind p = is_kind BindKind p.kind
+
+-- whether the operation of a row is a Bind
+abbrev pub is_bind_row : UpRow → Bool
+is_bind_row r = same_kind Bind r.kind
+
+-- the live operation of a name
+abbrev pub row_named : ConnectionState → OpName → Option UpRow
+row_named p op = find (λ r. same_op op r.op) p.rows
+
+-- whether a row's answer is kept back
+abbrev pub is_kept : UpRow → Bool
+is_kept r = is_some r.kept
+
+-- whether a message is under a row's identifier, and answers it
+abbrev pub is_under : ℕ → UpRow → Bool
+is_under id r = r.id == id && not (is_kept r)
+
+-- whether a message is under the identifier of a row's Who Am I
+abbrev pub is_under_who : ℕ → UpRow → Bool
+is_under_who id r = passes (λ k. passes (λ who. who == id) k.who) r.kept
+
+-- whether a message is under the identifier of the own Bind that waits
+abbrev pub is_under_own : ConnectionState → ℕ → Bool
+is_under_own p id = passes (λ own. own.id == id) p.own_bind
+
+-- whether the answer to a Bind is kept back: a success whose identity is asked for
+abbrev pub keeps_back : UpRow → List ℕ → Bool
+keeps_back r rest = r.ask_who && has_code 0 rest
+
+-- The fold: the state behind an entry, from the state before it.
+
+-- a row behind the final answer of its operation: none, but of a Bind whose answer can't be read or is kept back
+abbrev pub behind_final : ℕ → List ℕ → UpRow → List UpRow
+behind_final at rest r =
+    elim (is_bind_row r) [
+      | false ↦ []
+      | true ↦ elim (keeps_back r rest) [
+        | true ↦ record r { answered = at; kept = Some (record { rest = rest; who = None }) } ∷ []
+        | false ↦ elim (is_none (result_code rest)) [ true ↦ record r { answered = at } ∷ [] | false ↦ [] ]
+      ]
+    ]
+
+-- a row behind an answer of its operation
+abbrev pub behind_answer : ℕ → List ℕ → UpRow → List UpRow
+behind_answer at rest r =
+    elim (fits r.kind rest) [
+      | false ↦ r ∷ []
+      | true ↦ elim (is_final r.kind rest) [ true ↦ behind_final at rest r | false ↦ record r { answered = at } ∷ [] ]
+    ]
+
+-- a row behind an answer to its Who Am I: an extended response settles it
+abbrev pub behind_who : ℕ → List ℕ → UpRow → List UpRow
+behind_who at rest r = elim (tag_of rest == 0x78) [ true ↦ [] | false ↦ record r { answered = at } ∷ [] ]
+
+-- a row behind a message
+abbrev pub behind_message : ℕ → Message → UpRow → List UpRow
+behind_message at m r =
+    elim (is_under m.id r) [
+      | true ↦ behind_answer at m.rest r
+      | false ↦ elim (is_under_who m.id r) [ true ↦ behind_who at m.rest r | false ↦ r ∷ [] ]
+    ]
+
+-- whether a message settles the Bind of a row so that its holder lets go of the connection: by a code other than
+-- saslBindInProgress, or by what it tells of the identity
+abbrev pub lets_go : Message → UpRow → Bool
+lets_go m r =
+    is_bind_row r && (is_under m.id r && (is_final Bind m.rest && is_some (result_code m.rest) && not (has_code 14 m.rest) && not (keeps_back r m.rest))
+    || is_under_who m.id r && tag_of m.rest == 0x78)
+
+-- a message came
+abbrev pub with_got : ℕ → Message → ConnectionState → ConnectionState
+with_got at m p =
+    elim (is_under_own p m.id) [
+      | true ↦ record p { own_bind = None }
+      | false ↦ record p { rows = flat_map (behind_message at m) p.rows; holder = if list_any (lets_go m) p.rows then None else p.holder }
+    ]
+
+-- an operation went upstream, as its Forward says
+abbrev pub with_sent : ℕ → ℕ → Option Taken → ConnectionState → ConnectionState
+with_sent at id None p = record p { next = suc p.next }
+with_sent at id (Some t) p = by_letter t.letter
+  where
+    by_letter : Letter → ConnectionState
+    by_letter (Forward op kind rest ask_who holder) =
+        record p {
+          next = suc p.next;
+          rows = p.rows ++ record { id = id; op = op; kind = kind; ask_who = ask_who; sent = at; answered = at; kept = None } ∷ [];
+          holder = if is_bind p then Some holder else None;
+        }
+    by_letter _ = record p { next = suc p.next }
+
+-- a row behind an own message: a Who Am I is asked for it, or an Abandon ends it
+abbrev pub behind_own : Message → UpRow → List UpRow
+behind_own m r =
+    elim (bytes_eq m.rest who_am_i && passes (λ k. is_none k.who) r.kept) [
+      | true ↦ record r { kept = elim r.kept [ None ↦ None | Some k ↦ Some (record k { who = Some m.id }) ] } ∷ []
+      | false ↦ elim (not (is_bind_row r) && bytes_eq m.rest (abandon r.id)) [ true ↦ [] | false ↦ r ∷ [] ]
+    ]
+
+-- whether an own message is the own Bind, behind Linked
+abbrev pub is_first_bind : Settings → ConnectionState → Entry → Bool
+is_first_bind s p e = begins_with_bind s p.number && p.next == 1 && is_own_bind s e
+
+-- a message of the proxy's own went upstream
+abbrev pub with_own : Settings → Entry → Message → ConnectionState → ConnectionState
+with_own s e m p = record p { next = suc p.next; rows = flat_map (behind_own m) p.rows; own_bind = if is_first_bind s p e then Some (record { id = m.id; at = e.at }) else p.own_bind }
+
+-- the connection ended: nothing is live, and nobody holds it
+abbrev pub with_down : ConnectionState → ConnectionState
+with_down p = record p { down = true; rows = []; holder = None; freed = p.holder }
+
+-- behind what an entry says, with the letter of which it is the mark
+abbrev pub connection_behind : Settings → Entry → Option Taken → ConnectionState → What → ConnectionState
+connection_behind s e mark p what.Linked = record p { linked = true }
+connection_behind s e mark p what.Up = record p { up = true }
+connection_behind s e mark p what.Retired = record p { retired = true }
+connection_behind s e mark p (what.Sent id op rest) = with_sent e.at id mark p
+connection_behind s e mark p (what.Own id rest) = with_own s e (record { id = id; rest = rest }) p
+connection_behind s e mark p (what.Got id rest) = with_got e.at (record { id = id; rest = rest }) p
+connection_behind s e mark p (what.Expired op) = record p { rows = filter (λ r. not (same_op op r.op)) p.rows }
+connection_behind s e mark p (what.Missed op) = record p { holder = None }
+connection_behind s e mark p (what.Down why) = with_down p
+connection_behind s e mark p _ = p
+
+-- behind an entry
+abbrev pub step_connection : Settings → ConnectionState → Marked → ConnectionState
+step_connection s p m = record (connection_behind s m.entry m.mark p m.entry.what) { moment = m.entry.at }
+
+-- behind these entries
+abbrev pub step_connections : Settings → ConnectionState → List Marked → ConnectionState
+step_connections s p [] = p
+step_connections s p (m ∷ ms) = step_connections s (step_connection s p m) ms
+
+-- what a connection's list says
+abbrev pub connection_of : Settings → ℕ → List Marked → ConnectionState
+connection_of s u list = step_connections s (empty_connection s u) list

@@ -1,0 +1,14 @@
+pub mod Inputs
+pub mod ClientState
+pub mod ClientTurn
+pub mod ConnectionState
+pub mod ConnectionTurn
+pub mod RegularTurn
+pub mod BindTurn
+pub mod DeskState
+pub mod DeskTurn
+pub mod Turn
+pub mod Fit
+pub mod Share
+pub mod Stamps
+pub mod Laws
