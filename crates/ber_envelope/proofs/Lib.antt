@@ -1,4 +1,3 @@
 pub mod Octets
 pub mod Fronts
-pub mod ShortForms
 pub mod FirstMessage

@@ -1,4 +1,4 @@
-ghost use Rattle.std.specs.Prelude.{◌≡◌, ◌^◌, ◌<◌, ℕ, Option, length, IfSome, IfNone};
+ghost use Rattle.std.specs.Prelude.{◌≡◌, ℕ, Option, length};
 ghost use Rattle.ldap_spec.specs.Elements.{integer_of as integer_from, shortest_integer};
 
 use crate::lengths::number_of_octets;
@@ -23,19 +23,5 @@ pub(crate) fn integer_size(number: u32) -> usize
         0x80..=0x7FFF => 2,
         0x8000..=0x7F_FFFF => 3,
         _ => 4,
-    }
-}
-
-/// The number whose shortest integer these octets are.
-pub(crate) fn shortest_integer_of(octets: &[u8]) -> Option<u32>
-    ensures some { IfSome result (λ n. octets.now ≡ shortest_integer n) }
-    ensures below { IfSome result (λ n. n < 2 ^ 31) }
-    ensures none { IfNone result ((n : ℕ) → n < 2 ^ 31 → octets.now ≡ shortest_integer n → ⊥) }
-{
-    let number = integer_of(octets)?;
-    if integer_size(number) == octets.len() {
-        Some(number)
-    } else {
-        None
     }
 }

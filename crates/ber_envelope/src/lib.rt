@@ -11,14 +11,12 @@ mod elements;
 mod integers;
 mod lengths;
 mod reading;
-mod short_messages;
 mod writing;
 
 pub use elements::{Element, element_at};
 pub use integers::integer_of;
 pub use lload_names::NoMemory;
 pub use reading::{Envelope, Read};
-pub use short_messages::{One, read_one};
 pub use writing::{write_element, write_envelope, write_integer};
 
 #[cfg(test)]
@@ -82,37 +80,6 @@ mod tests {
             b"\x02\x04\x7F\xFF\xFF\xFF\x4A\x03o=a".as_slice()
         );
         Ok(())
-    }
-
-    #[test]
-    fn one_message_is_read(rt: HostRuntime) {
-        assert_eq!(rt;
-            read_one(b"\x30\x08\x02\x01\x05\x4A\x03o=a"),
-            Some(One { id: 5, rest_at: 5 })
-        );
-        let greatest = b"\x30\x0B\x02\x04\x7F\xFF\xFF\xFF\x4A\x03o=a";
-        assert_eq!(rt;
-            read_one(greatest),
-            Some(One {
-                id: 0x7FFF_FFFF,
-                rest_at: 8
-            })
-        );
-        assert_eq!(rt;
-            read_one(b"\x30\x08\x02\x01\xFF\x4A\x03o=a"),
-            None,
-            "negative"
-        );
-        assert_eq!(rt;
-            read_one(b"\x30\x08\x02\x01\x05\x4A\x03o=a\x30"),
-            None,
-            "octets behind it"
-        );
-        assert_eq!(rt;
-            read_one(b"\x30\x06\x02\x01\x05\x4A\x7Fo"),
-            None,
-            "an element that isn't whole"
-        );
     }
 
     #[test]

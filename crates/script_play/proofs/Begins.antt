@@ -2,14 +2,13 @@
 use Rattle.std.specs.Prelude.{◌≡◌, ℕ, Bool, true, false, ◌==◌, ◌||◌, if◌then◌else◌, List, [], ◌∷◌, ◌++◌, refl}
 use Rattle.std.proofs.Common.{ap, ◌∙◌, sym, subst}
 use Rattle.std.proofs.lemmas.List.{append-nil}
-use Rattle.ldap_spec.specs.Messages.{Message}
 use Rattle.ldap_spec.specs.Framing.{IsStream}
 use Rattle.lload_names.specs.declared.names.Entry.{Entry}
 use Rattle.lload_names.specs.declared.names.PartName.TheVariants.{Client, Up as Connection}
 use Rattle.lload_names.specs.declared.names.What.TheVariants.{Arrived, Linked, Up}
 use Rattle.lload_names.specs.declared.command.Command.{Command}
 use Rattle.lload_names.specs.declared.command.Command.TheVariants.{ClientArrives, UpReady}
-use Rattle.lload_spec.specs.Journal.{of_part, same_part}
+use Rattle.lload_spec.specs.Journal.{of_part}
 use Rattle.lload_spec.specs.History.{Line, commands, journal, fed, in_messages, got_messages}
 use Rattle.lload_spec.specs.Standing.{was_fed}
 use Rattle.lload_spec.specs.Plain.{plain}
@@ -20,7 +19,7 @@ use Rattle.script_play.specs.PlayState.{PlayState}
 use Rattle.script_play.specs.Plays.{Plays}
 use Rattle.script_play.specs.Beginning.{Begins}
 use Rattle.script_play.proofs.Histories.{in_more, got_more}
-use Rattle.script_play.proofs.Steps.{ClientReads, ConnectionReads, Goes, went}
+use Rattle.script_play.proofs.Steps.{ClientReads, ConnectionReads, went}
 use Rattle.script_play.proofs.Standing.{arriving_stands, linking_stands}
 
 pub or_false : (b : Bool) → (b || false) ≡ b

@@ -10,18 +10,18 @@ use Rattle.lload_names.specs.declared.names.Letter.TheVariants.{IsUp}
 use Rattle.lload_names.specs.declared.names.What.TheVariants.{Heard}
 use Rattle.lload_names.specs.declared.command.Command.TheVariants.{Settle}
 use Rattle.lload_spec.specs.Journal.{of_part}
-use Rattle.lload_spec.specs.History.{Line, commands, journal, joined, Each, fed, moment, word, in_messages, got_messages}
-use Rattle.lload_spec.specs.Follows.{IsRequestRound, IsAnswerRound, IsSettling, EachHasReadAll}
+use Rattle.lload_spec.specs.History.{Line, commands, journal, joined, fed, word, in_messages, got_messages}
+use Rattle.lload_spec.specs.Follows.{IsRequestRound, IsAnswerRound, IsSettling}
 use Rattle.lload_spec.specs.Plain.{plain}
 use Rattle.proxy_core.specs.States.{WorldState, is_unheard}
-use Rattle.proxy_core.specs.Rounds.{hearing, IsRound, TakesNothing}
+use Rattle.proxy_core.specs.Rounds.{hearing, TakesNothing}
 use Rattle.proxy_core.specs.Stands.{StandsFor}
 use Rattle.proxy_core.proofs.Promises.{knows_news}
 use Rattle.script_play.specs.PlayState.{PlayState}
 use Rattle.script_play.specs.Plays.{Plays}
 use Rattle.script_play.specs.Settling.{TookEach, Settles}
 use Rattle.script_play.proofs.Histories.{each_implies, in_more, got_more}
-use Rattle.script_play.proofs.Steps.{Goes, went}
+use Rattle.script_play.proofs.Steps.{went}
 
 -- what the desk hears takes nothing in
 hearing_quiet : (w : WorldState) → TakesNothing (hearing w.link)

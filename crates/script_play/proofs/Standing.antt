@@ -1,16 +1,16 @@
 -- Whether a line stands, as the play knows it.
-use Rattle.std.specs.Prelude.{◌≡◌, ℕ, suc, Bool, true, false, ◌==◌, ◌&&◌, ◌||◌, not, List, [], ◌∷◌, Option, Some, None, refl}
-use Rattle.std.specs.List.{list_any}
-use Rattle.std.proofs.Common.{ap, ◌∙◌, sym}
+use Rattle.std.specs.Prelude.{◌≡◌, ℕ, suc, Bool, true, false, ◌==◌, ◌&&◌, not, List, Option, Some, None, refl}
+use Rattle.std.proofs.Common.{ap, ◌∙◌}
 use Rattle.std.proofs.lemmas.Bool.{eqb-true}
-use Rattle.ldap_spec.specs.Messages.{Message}
+use Rattle.ldap_spec.specs.Messages.{Message, message_within}
 use Rattle.lload_names.specs.declared.names.PartName.TheVariants.{Client, Up as Connection}
-use Rattle.lload_names.specs.declared.command.Command.TheVariants.{ClientArrives, ClientBytes, UpReady, UpBytes, Settle}
+use Rattle.lload_names.specs.declared.command.Command.TheVariants.{ClientArrives, ClientBytes, UpReady, UpBytes}
 use Rattle.lload_spec.specs.Lists.{passes}
 use Rattle.lload_spec.specs.History.{Line, commands, journal}
-use Rattle.lload_spec.specs.Standing.{stands, arrivals, has_arrived, was_linked, short_message, is_one_element, is_new_delete, is_delete_answer, is_in_use, is_given, was_fed}
+use Rattle.lload_spec.specs.Plain.{plain}
+use Rattle.lload_spec.specs.Standing.{stands, arrivals, has_arrived, was_linked, is_one_element, is_new_delete, is_delete_answer, was_fed}
 use Rattle.lload_laws.proofs.ListLaws.{passes-ext}
-use Rattle.proxy_core.specs.States.{WorldState, may_begin, is_linked_state, uses, gave}
+use Rattle.proxy_core.specs.States.{may_begin, is_linked_state, uses, gave}
 use Rattle.proxy_core.proofs.Promises.{knows_arrival, knows_first_arrival, knows_linking, knows_use, knows_given}
 use Rattle.script_play.specs.PlayState.{PlayState}
 use Rattle.script_play.specs.Plays.{Plays}
@@ -30,20 +30,20 @@ passes_and true test None = refl
 passes_and false test None = refl
 passes_and a test (Some x) = refl
 
-pub arriving_stands : (p : PlayState) (history : List Line) (n : ℕ) → Plays p history → stands history (ClientArrives n) ≡ may_begin p.world (Client n)
+pub arriving_stands : (p : PlayState) (history : List Line) (n : ℕ) → Plays p history → stands plain history (ClientArrives n) ≡ may_begin p.world (Client n)
 arriving_stands p history n h = of_first n (λ k. k == suc (arrivals (journal history))) (not p.world.arrived) (knows_first_arrival p.world (journal history) h.stands)
 
-pub linking_stands : (p : PlayState) (history : List Line) (n : ℕ) → Plays p history → stands history (UpReady n) ≡ may_begin p.world (Connection n)
+pub linking_stands : (p : PlayState) (history : List Line) (n : ℕ) → Plays p history → stands plain history (UpReady n) ≡ may_begin p.world (Connection n)
 linking_stands p history n h = of_first n (λ k. not (was_linked k (journal history))) (not (is_linked_state p.world.link)) (ap not (knows_linking p.world (journal history) h.stands))
 
 request_stands : (p : PlayState) (history : List Line) (m : Message) → Plays p history → is_new_delete history m ≡ (not (m.id == 0) && is_one_element 0x4A m.rest && not (uses p.world m.id) && not (waits p.requests m.id))
 request_stands p history m h = ap (λ b. not (m.id == 0) && is_one_element 0x4A m.rest && not b && not (was_fed 1 m.id (commands history))) (knows_use p.world (journal history) m.id h.stands) ∙ ap (λ b. not (m.id == 0) && is_one_element 0x4A m.rest && not (uses p.world m.id) && not b) (h.fed_since m.id)
 
-pub feeding_stands : (p : PlayState) (history : List Line) (n : ℕ) (bytes : List ℕ) → Plays p history → stands history (ClientBytes n bytes) ≡ passes (may_be_fed p (Client n)) (short_message bytes)
-feeding_stands p history n bytes h = ap (λ b. b && passes (is_new_delete history) (short_message bytes)) (of_first n (λ k. has_arrived k (journal history)) p.world.arrived (knows_arrival p.world (journal history) h.stands)) ∙ passes_and (n == 1 && p.world.arrived) (is_new_delete history) (short_message bytes) ∙ passes-ext _ _ (short_message bytes) (λ m. ap (λ b. (n == 1 && p.world.arrived) && b) (request_stands p history m h))
+pub feeding_stands : (p : PlayState) (history : List Line) (n : ℕ) (bytes : List ℕ) → Plays p history → stands plain history (ClientBytes n bytes) ≡ passes (may_be_fed p (Client n)) (message_within plain.max_incoming_client bytes)
+feeding_stands p history n bytes h = ap (λ b. b && passes (is_new_delete history) (message_within plain.max_incoming_client bytes)) (of_first n (λ k. has_arrived k (journal history)) p.world.arrived (knows_arrival p.world (journal history) h.stands)) ∙ passes_and (n == 1 && p.world.arrived) (is_new_delete history) (message_within plain.max_incoming_client bytes) ∙ passes-ext _ _ (message_within plain.max_incoming_client bytes) (λ m. ap (λ b. (n == 1 && p.world.arrived) && b) (request_stands p history m h))
 
 answer_stands : (p : PlayState) (history : List Line) (m : Message) → Plays p history → is_delete_answer history m ≡ (is_one_element 0x6B m.rest && gave p.world m.id)
 answer_stands p history m h = ap (λ b. is_one_element 0x6B m.rest && b) (knows_given p.world (journal history) m.id h.stands)
 
-pub answering_stands : (p : PlayState) (history : List Line) (n : ℕ) (bytes : List ℕ) → Plays p history → stands history (UpBytes n bytes) ≡ passes (may_be_fed p (Connection n)) (short_message bytes)
-answering_stands p history n bytes h = ap (λ b. b && passes (is_delete_answer history) (short_message bytes)) (of_first n (λ k. was_linked k (journal history)) (is_linked_state p.world.link) (knows_linking p.world (journal history) h.stands)) ∙ passes_and (n == 1 && is_linked_state p.world.link) (is_delete_answer history) (short_message bytes) ∙ passes-ext _ _ (short_message bytes) (λ m. ap (λ b. (n == 1 && is_linked_state p.world.link) && b) (answer_stands p history m h))
+pub answering_stands : (p : PlayState) (history : List Line) (n : ℕ) (bytes : List ℕ) → Plays p history → stands plain history (UpBytes n bytes) ≡ passes (may_be_fed p (Connection n)) (message_within plain.max_incoming_upstream bytes)
+answering_stands p history n bytes h = ap (λ b. b && passes (is_delete_answer history) (message_within plain.max_incoming_upstream bytes)) (of_first n (λ k. was_linked k (journal history)) (is_linked_state p.world.link) (knows_linking p.world (journal history) h.stands)) ∙ passes_and (n == 1 && is_linked_state p.world.link) (is_delete_answer history) (message_within plain.max_incoming_upstream bytes) ∙ passes-ext _ _ (message_within plain.max_incoming_upstream bytes) (λ m. ap (λ b. (n == 1 && is_linked_state p.world.link) && b) (answer_stands p history m h))

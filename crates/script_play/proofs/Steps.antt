@@ -1,8 +1,6 @@
 -- What a line that is played adds to a history, and that the play stands for the longer one.
-use Rattle.std.specs.Prelude.{◌≡◌, ℕ, ◌+◌, Bool, true, false, ◌==◌, ◌||◌, if◌then◌else◌, List, [], ◌∷◌, ◌++◌, refl}
+use Rattle.std.specs.Prelude.{◌≡◌, ℕ, ◌+◌, true, false, ◌==◌, if◌then◌else◌, List, [], ◌∷◌, ◌++◌}
 use Rattle.std.proofs.Common.{ap, ◌∙◌, sym, subst, arith}
-use Rattle.std.proofs.lemmas.List.{append-nil}
-use Rattle.ldap_spec.specs.Messages.{Message}
 use Rattle.ldap_spec.specs.Framing.{IsStream}
 use Rattle.lload_names.specs.declared.names.Entry.{Entry}
 use Rattle.lload_names.specs.declared.names.PartName.TheVariants.{Client, Up as Connection}
@@ -28,7 +26,7 @@ ConnectionReads q cs bytes J n = IsStream plain.max_incoming_upstream (fed (Conn
 
 -- a command that stands behind a history, the entries that it made, and the play behind it
 pub record Goes (q : PlayState) (history : List Line) (command : Command) (piece : List Entry) : Type 0 where
-  pub stood : stands history command ≡ true
+  pub stood : stands plain history command ≡ true
   pub made : Makes plain history command piece
   pub stands : StandsFor q.world (journal history ++ piece)
   pub still : ticked_by command ≡ 0

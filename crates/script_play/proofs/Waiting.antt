@@ -1,15 +1,14 @@
 -- The messages that wait may be taken one after another.
-use Rattle.std.specs.Prelude.{◌≡◌, ℕ, ◌-◌, ◌^◌, ◌<◌, Bool, true, false, ◌==◌, ◌&&◌, ◌||◌, not, nat_lt, nat_le, if◌then◌else◌, ◌+◌, ◌≤◌, List, [], ◌∷◌, ◌++◌, length, map, slice_get, slice_set, Option, Some, None, refl}
+use Rattle.std.specs.Prelude.{◌≡◌, ℕ, ◌-◌, ◌^◌, ◌<◌, Bool, true, false, ◌==◌, ◌&&◌, ◌||◌, not, nat_lt, if◌then◌else◌, ◌+◌, ◌≤◌, List, [], ◌∷◌, ◌++◌, length, map, slice_get, slice_set, Option, Some, None, refl}
 use Rattle.std.specs.List.{list_any, list_all}
 use Rattle.std.proofs.Math.Bool.{or-true}
 use Rattle.std.proofs.Common.{ap, ◌∙◌, sym, subst, arith}
 use Rattle.std.proofs.lemmas.Bool.{lt-ltb, ltb-true, leb-true, le-leb, or_right, or_from, eqb-false, ne_eqb, not-true, or_parts}
 use Rattle.std.proofs.lemmas.List.{map-append, length-append, length-set}
 use Rattle.std.proofs.lemmas.List.Folds.{list_any-append, list_all-append}
-use Rattle.ldap_spec.specs.Messages.{Message}
+use Rattle.ldap_spec.specs.Messages.{Message, SpellsWithin}
 use Rattle.lload_names.specs.declared.names.PartName.{PartName}
 use Rattle.lload_names.specs.declared.names.PartName.TheVariants.{Desk, Client, Up as Connection}
-use Rattle.ber_envelope.specs.ShortMessages.{IsShortMessage}
 use Rattle.lload_spec.specs.Lists.{are_distinct}
 use Rattle.lload_spec.specs.Standing.{is_one_element}
 use Rattle.lload_spec.proofs.Growth.{left, right, both}
@@ -17,11 +16,11 @@ use Rattle.lload_laws.proofs.ListLaws.{all_imply, all_both, any-map}
 use Rattle.proxy_core.specs.declared.world.Link.{Link}
 use Rattle.proxy_core.specs.declared.world.Link.TheVariants.{NotLinked, Unheard, Heard}
 use Rattle.proxy_core.specs.declared.world.Forwarded.{Forwarded}
-use Rattle.proxy_core.specs.States.{WorldState, IsRequestFor, IsAnswerFor, MayTake, is_unheard, is_linked_state, is_heard_state, is_live_with, uses, gave, begun, heard_link, after_request, after_answer, after_message, answered}
+use Rattle.proxy_core.specs.States.{WorldState, IsRequestFor, IsAnswerFor, is_unheard, is_linked_state, is_heard_state, is_live_with, uses, gave, begun, heard_link, after_request, after_answer, answered}
 use Rattle.script_play.specs.PlayState.{PlayState}
 use Rattle.script_play.specs.Waiting.{waits, may_request, may_answer, are_none, MayWait}
-use Rattle.script_play.specs.Feeding.{may_be_fed, fed_with}
-use Rattle.script_play.proofs.FedBytes.{rest_within}
+use Rattle.script_play.specs.Feeding.{limit_of, may_be_fed, fed_with}
+use Rattle.script_play.proofs.FedBytes.{rest_within, limit_small}
 use Rattle.script_play.specs.Settling.{MayTakeEach, after_each}
 
 -- the parts of five tests, and of four
@@ -173,11 +172,14 @@ requests_given w [] = omega arith
 requests_given w (m ∷ ms) = let one : length w.forwarded ≤ length (after_request w m.id).forwarded = forwarded_more (is_heard_state w.link) w.forwarded (record { k = w.made + 1; id = m.id; answered = false }) in let more : length (after_request w m.id).forwarded ≤ length (after_each (after_request w m.id) (Client 1) ms).forwarded = requests_given (after_request w m.id) ms in omega arith
 
 -- a message that was fed may be taken
-fed_request : (p : PlayState) (bytes : List ℕ) (m : Message) → IsShortMessage bytes m → (not (m.id == 0) && is_one_element 0x4A m.rest && not (uses p.world m.id)) ≡ true → may_request p.world m ≡ true
-fed_request p bytes m s h = both _ _ (both _ _ (both _ _ (both _ _ (lt-ltb m.id (2 ^ 31) s.is_message.id_in_range) (left (not (m.id == 0)) (is_one_element 0x4A m.rest) (left _ _ h))) (right _ _ h)) (right (not (m.id == 0)) _ (left _ _ h))) (lt-ltb (length m.rest) (2 ^ 30) (let short : length m.rest ≤ 127 = rest_within bytes m s in omega arith))
+rest_small : (part : PartName) (bytes : List ℕ) (m : Message) → SpellsWithin (limit_of part) bytes m → nat_lt (length m.rest) (2 ^ 30) ≡ true
+rest_small part bytes m s = lt-ltb (length m.rest) (2 ^ 30) (let small : limit_of part < 2 ^ 30 = limit_small part in let within : length m.rest ≤ limit_of part = rest_within (limit_of part) bytes m s in omega arith)
 
-fed_answer : (p : PlayState) (bytes : List ℕ) (m : Message) → IsShortMessage bytes m → (is_one_element 0x6B m.rest && gave p.world m.id) ≡ true → may_answer p.world m ≡ true
-fed_answer p bytes m s h = both _ _ (both _ _ (both _ _ (lt-ltb m.id (2 ^ 31) s.is_message.id_in_range) (right _ _ h)) (left _ _ h)) (lt-ltb (length m.rest) (2 ^ 30) (let short : length m.rest ≤ 127 = rest_within bytes m s in omega arith))
+fed_request : (p : PlayState) (n : ℕ) (bytes : List ℕ) (m : Message) → SpellsWithin (limit_of (Client n)) bytes m → (not (m.id == 0) && is_one_element 0x4A m.rest && not (uses p.world m.id)) ≡ true → may_request p.world m ≡ true
+fed_request p n bytes m s h = both _ _ (both _ _ (both _ _ (both _ _ (lt-ltb m.id (2 ^ 31) s.spelling.is_message.id_in_range) (left (not (m.id == 0)) (is_one_element 0x4A m.rest) (left _ _ h))) (right _ _ h)) (right (not (m.id == 0)) _ (left _ _ h))) (rest_small (Client n) bytes m s)
+
+fed_answer : (p : PlayState) (n : ℕ) (bytes : List ℕ) (m : Message) → SpellsWithin (limit_of (Connection n)) bytes m → (is_one_element 0x6B m.rest && gave p.world m.id) ≡ true → may_answer p.world m ≡ true
+fed_answer p n bytes m s h = both _ _ (both _ _ (both _ _ (lt-ltb m.id (2 ^ 31) s.spelling.is_message.id_in_range) (right _ _ h)) (left _ _ h)) (rest_small (Connection n) bytes m s)
 
 -- one more of each
 all_more : (test : Message → Bool) (ms : List Message) (m : Message) → list_all test ms ≡ true → test m ≡ true → list_all test (ms ++ m ∷ []) ≡ true
@@ -186,11 +188,11 @@ all_more test ms m h k = list_all-append test ms (m ∷ []) ∙ both _ _ h (both
 ids_more : (ms : List Message) (m : Message) → are_distinct (map (λ k. k.id) ms) ≡ true → waits ms m.id ≡ false → are_distinct (map (λ k. k.id) (ms ++ m ∷ [])) ≡ true
 ids_more ms m h free = ap are_distinct (map-append (λ k. k.id) ms (m ∷ [])) ∙ distinct_more (map (λ k. k.id) ms) m.id h (any-map (λ n. n == m.id) (λ k. k.id) ms ∙ free)
 
-request_waits : (p : PlayState) (n : ℕ) (bytes : List ℕ) (m : Message) → MayWait p → IsShortMessage bytes m → may_be_fed p (Client n) m ≡ true → MayWait (fed_with p (Client n) m)
+request_waits : (p : PlayState) (n : ℕ) (bytes : List ℕ) (m : Message) → MayWait p → SpellsWithin (limit_of (Client n)) bytes m → may_be_fed p (Client n) m ≡ true → MayWait (fed_with p (Client n) m)
 request_waits p n bytes m h s may = record {
   arrived = ap (λ b. are_none (p.requests ++ m ∷ []) || b) (right (n == 1) p.world.arrived (left _ _ may)) ∙ or-true (are_none (p.requests ++ m ∷ []));
   linked = h.linked;
-  requests = all_more (may_request p.world) p.requests m h.requests (fed_request p bytes m s (left _ _ fits));
+  requests = all_more (may_request p.world) p.requests m h.requests (fed_request p n bytes m s (left _ _ fits));
   distinct = ids_more p.requests m h.distinct (not-true (waits p.requests m.id) (right _ _ fits));
   answers = h.answers;
 }
@@ -198,16 +200,16 @@ request_waits p n bytes m h s may = record {
     fits : (not (m.id == 0) && is_one_element 0x4A m.rest && not (uses p.world m.id) && not (waits p.requests m.id)) ≡ true
     fits = right (n == 1 && p.world.arrived) _ may
 
-answer_waits : (p : PlayState) (n : ℕ) (bytes : List ℕ) (m : Message) → MayWait p → IsShortMessage bytes m → may_be_fed p (Connection n) m ≡ true → MayWait (fed_with p (Connection n) m)
+answer_waits : (p : PlayState) (n : ℕ) (bytes : List ℕ) (m : Message) → MayWait p → SpellsWithin (limit_of (Connection n)) bytes m → may_be_fed p (Connection n) m ≡ true → MayWait (fed_with p (Connection n) m)
 answer_waits p n bytes m h s may = record {
   arrived = h.arrived;
   linked = ap (λ b. are_none (p.answers ++ m ∷ []) || b) (right (n == 1) (is_linked_state p.world.link) (left _ _ may)) ∙ or-true (are_none (p.answers ++ m ∷ []));
   requests = h.requests;
   distinct = h.distinct;
-  answers = all_more (may_answer p.world) p.answers m h.answers (fed_answer p bytes m s (right (n == 1 && is_linked_state p.world.link) _ may));
+  answers = all_more (may_answer p.world) p.answers m h.answers (fed_answer p n bytes m s (right (n == 1 && is_linked_state p.world.link) _ may));
 }
 
-pub fed_waits : (p : PlayState) (part : PartName) (bytes : List ℕ) (m : Message) → MayWait p → IsShortMessage bytes m → may_be_fed p part m ≡ true → MayWait (fed_with p part m)
+pub fed_waits : (p : PlayState) (part : PartName) (bytes : List ℕ) (m : Message) → MayWait p → SpellsWithin (limit_of part) bytes m → may_be_fed p part m ≡ true → MayWait (fed_with p part m)
 fed_waits p Desk bytes m h s may = h
 fed_waits p (Client n) bytes m h s may = request_waits p n bytes m h s may
 fed_waits p (Connection n) bytes m h s may = answer_waits p n bytes m h s may

@@ -8,6 +8,7 @@
 
 mod elements;
 mod fed;
+mod messages;
 mod play;
 mod taking;
 

@@ -1,14 +1,15 @@
 ghost use Rattle.std.specs.Prelude.{◌≡◌, List, [], ◌∷◌, ◌++◌, true, false, IfOk, OnOk, map};
-ghost use Rattle.ldap_spec.specs.Messages.{Message};
+ghost use Rattle.ldap_spec.specs.Messages.{Message, message_within};
 ghost use Rattle.lload_names.specs.declared.names.Entry.{Entry as EntryValue};
 ghost use Rattle.lload_spec.specs.Lists.{passes};
-ghost use Rattle.lload_spec.specs.Standing.{stands, short_message, is_one_element as is_one_element_of};
+ghost use Rattle.lload_spec.specs.Plain.{plain};
+ghost use Rattle.lload_spec.specs.Standing.{stands, is_one_element as is_one_element_of};
 ghost use Rattle.lload_spec.specs.Writable.{each_can_be_written};
 
 use crate::elements::is_one_element;
 use crate::fed::{Fed, has_id};
+use crate::messages::{limit_of, whole_message};
 use crate::taking::take_each;
-use ber_envelope::read_one;
 use lload_names::{Body, Command, Entries, NoMemory, PartName};
 use proxy_core::World;
 use std::alloc::Global;
@@ -80,7 +81,7 @@ impl Play {
     pub fn play(&mut self, command: Command) -> Result<Entries, Unplayed>
         ensures played { IfOk result (λ piece. (history : List Line) → Plays self.old history → Plays self.new (history ++ record { command = command; piece = piece } ∷ [])) }
         ensures writable { IfOk result (λ piece. each_can_be_written piece ≡ true) }
-        ensures refused { result ≡ Err Unplayed.DoesNotStand → (history : List Line) → Plays self.old history → stands history command ≡ false }
+        ensures refused { result ≡ Err Unplayed.DoesNotStand → (history : List Line) → Plays self.old history → stands plain history command ≡ false }
     {
         match command {
             Command::ClientArrives { n } => self.begin(PartName::Client(n)),
@@ -97,7 +98,7 @@ impl Play {
     ghost use Rattle.proxy_core.specs.States.{may_begin};
     ghost use Rattle.script_play.specs.Beginning.{Begins};
     ghost use Rattle.script_play.specs.FedMessages.{message};
-    ghost use Rattle.script_play.specs.Feeding.{may_be_fed as may_be_fed_in, fed_with, TakesIn};
+    ghost use Rattle.script_play.specs.Feeding.{limit_of as limit_of_part, may_be_fed as may_be_fed_in, fed_with, TakesIn};
     ghost use Rattle.script_play.specs.Waiting.{waits, MayWait};
     ghost use Rattle.script_play.specs.Settling.{Settles};
 
@@ -117,21 +118,26 @@ impl Play {
         Ok(self.world.begin(part)?)
     }
 
-    // A part is fed bytes, which are one short message.
+    // A part is fed bytes, which are one message.
     fn feed(&mut self, part: PartName, bytes: &[u8]) -> Result<Entries, Unplayed>
         ensures none { IfOk result (λ piece. piece ≡ []) }
         ensures fed { OnOk result (TakesIn part bytes.now self.old self.new) }
-        ensures refused { result ≡ Err Unplayed.DoesNotStand → passes (may_be_fed_in self.old part) (short_message bytes.now) ≡ false }
+        ensures refused { result ≡ Err Unplayed.DoesNotStand → passes (may_be_fed_in self.old part) (message_within (limit_of_part part) bytes.now) ≡ false }
     {
-        let Some(one) = read_one(bytes) else {
+        let Some(message) = whole_message(bytes, limit_of(part)) else {
             return Err(Unplayed::DoesNotStand);
         };
-        let rest = &bytes[one.rest_at..];
-        if !self.may_be_fed(part, one.id, rest) {
+        if !self.may_be_fed(part, message.id, message.rest) {
             return Err(Unplayed::DoesNotStand);
         }
-        let rest = Body::from_slice(self.alloc, rest)?;
-        self.wait(part, Fed { id: one.id, rest })?;
+        let rest = Body::from_slice(self.alloc, message.rest)?;
+        self.wait(
+            part,
+            Fed {
+                id: message.id,
+                rest,
+            },
+        )?;
         Ok(Entries::new(self.alloc))
     }
 

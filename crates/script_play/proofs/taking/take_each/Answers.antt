@@ -1,4 +1,4 @@
-use Rattle.std.proofs.Common.{map, ◌≡◌, ◌++◌, ap, sym, subst}
+use Rattle.std.proofs.Common.{map, ap, sym, subst}
 use Rattle.script_play.specs.FedMessages.{message}
 use Rattle.script_play.proofs.Rounds.{TookSoFar, so_far_none, so_far_more}
 use Rattle.script_play.proofs.taking.take_each.Goals as goal

@@ -1,4 +1,4 @@
-use Rattle.std.proofs.Common.{◌≡◌, ◌∙◌, ◌==◌, ap, sym}
+use Rattle.std.proofs.Common.{◌∙◌, ◌==◌, ap, sym}
 use Rattle.script_play.specs.FedMessages.{message}
 use Rattle.script_play.specs.Waiting.{waits}
 use Rattle.lload_laws.proofs.ListLaws.{any-map}
