@@ -1,0 +1,42 @@
+//! A table of configuration texts and what they come to, which stands in the file `stdin`: each text is read, and a row
+//! whose answer isn't that of the table is printed. The last line counts the rows, and those that differ.
+#![tactic(auto)]
+
+mod answer;
+mod row;
+
+use crate::answer::answer_to;
+use crate::row::decoded;
+use anyhow::{Context, Result};
+use std::alloc::Global;
+use std::io::{BufRead, BufReader};
+
+/// What a row's text comes to, where that isn't the row's answer.
+fn difference(alloc: Global, row: &str) -> Result<Option<String>> {
+    let (answer, text) = row.split_once('|').context("a row without a bar")?;
+    let wanted = decoded(alloc, answer.trim_end_matches(' '))?;
+    let given = answer_to(alloc, decoded(alloc, text)?.as_slice())?;
+    Ok(if given.as_bytes() == wanted.as_slice() {
+        None
+    } else {
+        Some(given)
+    })
+}
+
+fn main(rt: HostRuntime) -> Result<()> {
+    let mut rows = 0u64;
+    let mut differing = 0u64;
+    for line in BufReader::new(rt.alloc(), rt.reader())?.lines(rt.alloc()) {
+        let row = line?;
+        if row.is_empty() || row.starts_with('#') {
+            continue;
+        }
+        rows = rows.saturating_add(1);
+        if let Some(given) = difference(rt.alloc(), row.as_str())? {
+            differing = differing.saturating_add(1);
+            println!(rt; "{row}\n    gives {given}")?;
+        }
+    }
+    println!(rt; "{rows} rows, {differing} differ")?;
+    Ok(())
+}

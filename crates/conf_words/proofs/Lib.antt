@@ -1,0 +1,5 @@
+pub mod PhysicalLines
+pub mod WordSteps
+pub mod Encoded
+pub mod Contents
+pub mod Groups

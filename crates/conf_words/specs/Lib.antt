@@ -1,0 +1,5 @@
+pub mod Quoting
+pub mod Lines
+pub mod Reading
+pub mod WordMaking
+pub mod Examples

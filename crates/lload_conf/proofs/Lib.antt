@@ -1,0 +1,7 @@
+pub mod Answering
+pub mod Drafts
+pub mod Lengths
+pub mod Limits
+pub mod Repeats
+pub mod Tables
+pub mod Texts

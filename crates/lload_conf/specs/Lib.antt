@@ -1,0 +1,9 @@
+pub mod Answers
+pub mod Configuration
+pub mod Draft
+pub mod Faults
+pub mod Line
+pub mod Settings
+pub mod Table
+pub mod Values
+pub mod Within
