@@ -8,4 +8,5 @@
 mod tests;
 mod window;
 
-pub use window::{Hold, Window};
+pub use lload_names::Hold;
+pub use window::Window;

@@ -1,17 +1,8 @@
 ghost use Rattle.std.specs.Prelude.{◌≡◌, ◌<◌, ◌++◌, ◌∷◌, [], List};
-ghost use Rattle.coherence.specs.Calls.{Call, Chosen, WriteEnded, Reset, standing, binding, is_open};
+ghost use Rattle.lload_spec.specs.BindingCalls.{Call, Chosen, WriteEnded, Reset, standing, binding_after, is_open};
 
-use lload_names::Bound;
+use lload_names::{Bound, Hold};
 use std::marker::Model;
-
-/// How an operation binds later ones, once it was given a connection: to the backend while it is live and for a time
-/// behind, to the backend, or to the connection itself (restrict_exop and restrict_control in lloadd.conf(5)).
-#[derive(Clone, Copy, Debug, PartialEq, Eq, Drop)]
-pub enum Hold {
-    Write,
-    Backend,
-    Connection,
-}
 
 /// What a client is bound to, by the operations since its last Bind. An earlier choice of the same strength stays,
 /// but for writes, of which the last counts.
@@ -26,7 +17,7 @@ pub struct Window {
 }
 
 impl Model for Window {
-    ghost use Rattle.coherence.specs.Calls.{Standing};
+    ghost use Rattle.lload_spec.specs.BindingCalls.{Standing};
 
     ghost Value = { Standing };
 
@@ -93,7 +84,7 @@ impl Window {
 
     /// What the client is bound to at the moment `now`, in milliseconds.
     pub fn target(&self, now: u64) -> Bound
-        ensures calls { (calls : List Call) → self.now ≡ standing self.now.seconds calls → result ≡ binding self.now.seconds calls now }
+        ensures calls { (calls : List Call) → self.now ≡ standing self.now.seconds calls → result ≡ binding_after self.now.seconds calls now }
     {
         if let Some(conn) = self.connection {
             return Bound::Conn(conn);

@@ -1,6 +1,7 @@
 use Rattle.std.specs.Prelude.{ℕ, Bool, ◌&&◌, ◌==◌, ◌+◌, ◌*◌, ◌≤◌, List, [], ◌∷◌, ◌++◌, Option, Some, None, if◌then◌else◌, nat_lt, nat_le}
 use Rattle.lload_names.specs.declared.names.OpName.{OpName}
 use Rattle.lload_names.specs.declared.names.OpKind.{OpKind}
+use Rattle.lload_names.specs.Same.{same_op}
 use Rattle.id_table.specs.declared.row.Row.{Row}
 
 -- the live rows by rising identifier, the next identifier, and the limit at which the connection retires
@@ -12,9 +13,6 @@ pub record Table : Type 0 where
 -- a table from which nothing was given
 abbrev pub empty : ℕ → Table
 empty limit = record { rows = []; next = 1; limit = limit }
-
-abbrev pub same_op : OpName → OpName → Bool
-same_op p q = (p.client == q.client) && (p.k == q.k)
 
 -- the row of an identifier
 abbrev pub row_of : ℕ → List Row → Option Row

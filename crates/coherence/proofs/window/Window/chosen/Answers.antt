@@ -1,7 +1,7 @@
 use Rattle.std.proofs.Common.{ap}
-use Rattle.coherence.specs.declared.window.Hold.TheVariants.{Write, Backend, Connection}
-use Rattle.coherence.specs.Calls.{Chosen}
-use Rattle.coherence.proofs.Pushed.{after, pushed}
+use Rattle.lload_names.specs.declared.names.Hold.TheVariants.{Write, Backend, Connection}
+use Rattle.lload_spec.specs.BindingCalls.{Chosen}
+use Rattle.lload_spec.proofs.Pushed.{after, pushed}
 use Rattle.coherence.proofs.window.Window.chosen.Goals as goal
 
 -- src/window.rt:53:5

@@ -1,6 +1,6 @@
 use Rattle.std.proofs.Common.{ap}
-use Rattle.coherence.specs.Calls.{Reset}
-use Rattle.coherence.proofs.Pushed.{after, pushed}
+use Rattle.lload_spec.specs.BindingCalls.{Reset}
+use Rattle.lload_spec.proofs.Pushed.{after, pushed}
 use Rattle.coherence.proofs.window.Window.reset.Goals as goal
 
 -- src/window.rt:77:5

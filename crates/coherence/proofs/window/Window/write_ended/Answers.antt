@@ -1,6 +1,6 @@
 use Rattle.std.proofs.Common.{◌≡◌, ap, max, arith}
-use Rattle.coherence.specs.Calls.{WriteEnded}
-use Rattle.coherence.proofs.Pushed.{after, pushed}
+use Rattle.lload_spec.specs.BindingCalls.{WriteEnded}
+use Rattle.lload_spec.proofs.Pushed.{after, pushed}
 use Rattle.coherence.proofs.window.Window.write_ended.Goals as goal
 
 -- src/window.rt:68:5

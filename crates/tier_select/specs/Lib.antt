@@ -1,0 +1,4 @@
+pub mod Flags
+pub mod Turns
+pub mod Members
+pub mod Calls
