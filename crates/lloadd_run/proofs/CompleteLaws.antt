@@ -6,6 +6,7 @@ use Rattle.lload_names.specs.declared.command.Command.{Command}
 use Rattle.lload_outside.specs.Causes.{Rose}
 use Rattle.lload_outside.specs.Told.{Told}
 use Rattle.lload_spec.specs.History.{Line, commands}
+use Rattle.lload_spec.specs.Plain.{plain}
 use Rattle.lload_spec.specs.Script.{command_of}
 use Rattle.lload_spec.specs.Standing.{stands}
 use Rattle.lloadd_run.specs.declared.status.Status.{Status}
@@ -21,8 +22,8 @@ stands_or_not true s r = cc
 stands_or_not false s r = cc
 
 -- a line that is refused is no command that stands
-pub not_refused : (history : List Line) (o : Option Command) (c : Command) → o ≡ Some c → IsTrue (stands history c) → refuses history o ≡ true → ⊥
-not_refused history o c is s r = stands_or_not (stands history c) s (subst (λ o. refuses history o ≡ true) is r)
+pub not_refused : (history : List Line) (o : Option Command) (c : Command) → o ≡ Some c → IsTrue (stands plain history c) → refuses history o ≡ true → ⊥
+not_refused history o c is s r = stands_or_not (stands plain history c) s (subst (λ o. refuses history o ≡ true) is r)
 
 -- a line among those within the limit is among those of the whole text
 pub record Found (text : List ℕ) (lines : List (List ℕ)) : Type 0 where

@@ -6,3 +6,4 @@ pub mod TextLaws
 pub mod RunLaws
 pub mod CompleteLaws
 pub mod ExactLaws
+pub mod CheckLaws

@@ -5,3 +5,4 @@ pub mod Outcomes
 pub mod Words
 pub mod Halts
 pub mod Playing
+pub mod Checking

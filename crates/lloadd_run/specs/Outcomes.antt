@@ -91,7 +91,7 @@ Ends limit ListenFault r rr left now_left w ww written now_written = ⊥
 
 -- each command stands behind each history that follows the commands before it and keeps what is promised
 abbrev pub EachStands : List Command → Type 0
-EachStands cs = (history : List Line) (command : Command) (behind : List Command) → cs ≡ commands history ++ command ∷ behind → Follows plain history → HasKept history → IsTrue (stands history command)
+EachStands cs = (history : List Line) (command : Command) (behind : List Command) → cs ≡ commands history ++ command ∷ behind → Follows plain history → HasKept history → IsTrue (stands plain history command)
 
 -- a script within the limit, of whole lines that are commands, each of which stands where it is
 pub record CanBeReplayed (limit : ℕ) (text : List ℕ) : Type 0 where

@@ -48,4 +48,4 @@ pub record Replays (lines : List (List ℕ)) (history : List Line) : Type 0 wher
 -- whether a line, by its command, is refused behind a history: it isn't a command, or doesn't stand
 abbrev pub refuses : List Line → Option Command → Bool
 refuses history None = true
-refuses history (Some command) = not (stands history command)
+refuses history (Some command) = not (stands plain history command)

@@ -6,6 +6,7 @@
 //! fault comes from a count that rose; want of memory alone has no cause that is stated.
 #![tactic(auto)]
 
+mod checking;
 mod player;
 mod program;
 mod status;

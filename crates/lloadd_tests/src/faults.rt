@@ -6,7 +6,13 @@ use std::test::Fail;
 
 #[test]
 fn other_words_are_not_taken(rt: HostRuntime) -> Result<(), Fail> {
-    for words in ["replay", "replay plain --id-limit 1", "check"] {
+    for words in [
+        "replay",
+        "replay plain --id-limit 1",
+        "check",
+        "check -f",
+        "check ",
+    ] {
         let ran = run_words(rt.alloc(), words, Body::new(rt.alloc()), &[], &[])?;
         assert_eq!(rt; ran.status, Status::Usage, "of {words}");
         assert_eq!(rt; ran.written.as_str(), "");

@@ -1,6 +1,8 @@
-//! Tests of the whole: `run` over objects in memory, against worked scripts and their journals.
+//! Tests of the whole: `run` over objects in memory, against worked configurations and scripts.
 #![tactic(auto)]
 
+#[cfg(test)]
+mod checks;
 #[cfg(test)]
 mod faults;
 #[cfg(test)]

@@ -20,6 +20,30 @@ fn a_delete_goes_there_and_back(rt: HostRuntime) -> Result<(), Fail> {
 }
 
 #[test]
+fn any_spelling_of_a_message_is_taken(rt: HostRuntime) -> Result<(), Fail> {
+    let text = format!(in rt.alloc(); "{ITS_LINES}end 12\n")?;
+    let rows = [
+        (
+            "3084000000080201054A036F3D61",
+            "300C0201016B070A010004000400",
+        ),
+        (
+            "300A02030000054A036F3D61",
+            "3082000F0204000000016B070A010004000400",
+        ),
+    ];
+    for (request, answer) in rows {
+        let script = format!(in rt.alloc();
+            "up 1 ready\nsettle\nclient 1 arrives\nclient 1 bytes {request}\nsettle\nup 1 bytes {answer}\nsettle\n"
+        )?;
+        let ran = replay(rt.alloc(), script.as_str())?;
+        assert_eq!(rt; ran.status, Status::Done, "of {script}");
+        assert_eq!(rt; ran.written.as_str(), text.as_str());
+    }
+    Ok(())
+}
+
+#[test]
 fn whole_scripts_are_replayed(rt: HostRuntime) -> Result<(), Fail> {
     let rows = [
         ("", "end 0\n"),
