@@ -1,6 +1,7 @@
 pub mod Octets
-pub mod Configurations
 pub mod World
 pub mod Scripts
+pub mod RuleScripts
+pub mod PickScripts
 pub mod Shares
 pub mod WrongLists

@@ -3,8 +3,7 @@
 ghost use Rattle.std.specs.Prelude.{◌∷◌, [], IsTrue};
 ghost use Rattle.lload_names.specs.declared.names.PartName.TheVariants.{Desk, Client, Up as Connection};
 ghost use Rattle.lload_spec.specs.Plain.{plain};
-ghost use Rattle.spec_examples.specs.Configurations.{proxying, two_tiers};
-ghost use Rattle.part_examples.specs.Configurations.{coherent, patient, restricting, short_lived, timed};
+ghost use Rattle.spec_examples.specs.Configurations.{binding_itself, impatient, proxying, restricting, two_identifiers, two_tiers, write_coherent};
 ghost use Rattle.part_examples.specs.World.{played};
 ghost use Rattle.part_examples.specs.Shares.{are_given};
 ghost use Rattle.part_examples.specs.Scripts.{anonymous_script, bad_answer_script, bound_script, drained_bind_script, drained_script, empty_password_script, expired_bind_script, expired_script, missed_bind_script, missed_script, rebound_script, returned_script, second_tier_script, unfinished_script, unknown_script, window_script, zero_id_script};
@@ -31,7 +30,7 @@ pub fn rebound_gives_its_letters()
 
 /// The letters.
 pub fn window_gives_its_letters()
-    ensures { IsTrue (are_given coherent (Desk ∷ Client 1 ∷ Connection 1 ∷ Connection 2 ∷ []) (played coherent window_script)) }
+    ensures { IsTrue (are_given write_coherent (Desk ∷ Client 1 ∷ Connection 1 ∷ Connection 2 ∷ []) (played write_coherent window_script)) }
 {}
 
 /// The letters.
@@ -41,7 +40,7 @@ pub fn bound_gives_its_letters()
 
 /// The letters.
 pub fn drained_gives_its_letters()
-    ensures { IsTrue (are_given short_lived (Desk ∷ Client 1 ∷ Connection 1 ∷ Connection 2 ∷ Connection 3 ∷ []) (played short_lived drained_script)) }
+    ensures { IsTrue (are_given two_identifiers (Desk ∷ Client 1 ∷ Connection 1 ∷ Connection 2 ∷ Connection 3 ∷ []) (played two_identifiers drained_script)) }
 {}
 
 /// The letters.
@@ -51,7 +50,7 @@ pub fn zero_id_gives_its_letters()
 
 /// The letters.
 pub fn expired_gives_its_letters()
-    ensures { IsTrue (are_given timed (Desk ∷ Client 1 ∷ Connection 1 ∷ []) (played timed expired_script)) }
+    ensures { IsTrue (are_given binding_itself (Desk ∷ Client 1 ∷ Connection 1 ∷ []) (played binding_itself expired_script)) }
 {}
 
 /// The letters.
@@ -86,10 +85,10 @@ pub fn missed_bind_gives_its_letters()
 
 /// The letters.
 pub fn expired_bind_gives_its_letters()
-    ensures { IsTrue (are_given patient (Desk ∷ Client 1 ∷ Connection 1 ∷ Connection 2 ∷ []) (played patient expired_bind_script)) }
+    ensures { IsTrue (are_given impatient (Desk ∷ Client 1 ∷ Connection 1 ∷ Connection 2 ∷ []) (played impatient expired_bind_script)) }
 {}
 
 /// The letters.
 pub fn drained_bind_gives_its_letters()
-    ensures { IsTrue (are_given short_lived (Desk ∷ Client 1 ∷ Connection 1 ∷ Connection 2 ∷ []) (played short_lived drained_bind_script)) }
+    ensures { IsTrue (are_given two_identifiers (Desk ∷ Client 1 ∷ Connection 1 ∷ Connection 2 ∷ []) (played two_identifiers drained_bind_script)) }
 {}

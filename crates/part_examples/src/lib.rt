@@ -5,6 +5,7 @@
 
 pub mod choices;
 pub mod fits;
+pub mod journals;
 pub mod letters;
 pub mod promises;
 pub mod rows;

@@ -3,8 +3,7 @@
 ghost use Rattle.std.specs.Prelude.{◌≡◌, ◌∷◌, [], drop, map, IsTrue};
 ghost use Rattle.lload_names.specs.declared.names.PartName.TheVariants.{Desk, Client, Up as Connection};
 ghost use Rattle.lload_spec.specs.Plain.{plain};
-ghost use Rattle.spec_examples.specs.Configurations.{proxying, two_tiers};
-ghost use Rattle.part_examples.specs.Configurations.{coherent, patient, restricting, short_lived, timed};
+ghost use Rattle.spec_examples.specs.Configurations.{binding_itself, impatient, proxying, restricting, two_identifiers, two_tiers, write_coherent};
 ghost use Rattle.part_examples.specs.World.{played};
 ghost use Rattle.part_examples.specs.Shares.{are_kept, are_stamped, keeps_promises};
 ghost use Rattle.part_examples.specs.Scripts.{anonymous_script, bad_answer_script, bound_script, drained_bind_script, drained_script, empty_password_script, exchange_script, expired_bind_script, expired_script, great_id_script, missed_bind_script, missed_script, no_message_script, no_tier_script, rebound_script, returned_script, second_tier_script, start_tls_script, unanswered_script, unfinished_script, unknown_script, window_script, zero_id_script};
@@ -36,7 +35,7 @@ pub fn rebound_keeps_promises()
 
 /// The promises.
 pub fn window_keeps_promises()
-    ensures { IsTrue (keeps_promises coherent (played coherent window_script)) }
+    ensures { IsTrue (keeps_promises write_coherent (played write_coherent window_script)) }
 {}
 
 /// The promises.
@@ -46,7 +45,7 @@ pub fn bound_keeps_promises()
 
 /// The promises.
 pub fn drained_keeps_promises()
-    ensures { IsTrue (keeps_promises short_lived (played short_lived drained_script)) }
+    ensures { IsTrue (keeps_promises two_identifiers (played two_identifiers drained_script)) }
 {}
 
 /// The promises.
@@ -71,12 +70,12 @@ pub fn start_tls_keeps_promises()
 
 /// The promises.
 pub fn expired_keeps_promises()
-    ensures { IsTrue (keeps_promises timed (played timed expired_script)) }
+    ensures { IsTrue (keeps_promises binding_itself (played binding_itself expired_script)) }
 {}
 
 /// The promises.
 pub fn unanswered_keeps_promises()
-    ensures { IsTrue (keeps_promises timed (played timed unanswered_script)) }
+    ensures { IsTrue (keeps_promises binding_itself (played binding_itself unanswered_script)) }
 {}
 
 /// The promises.
@@ -111,24 +110,24 @@ pub fn missed_bind_keeps_promises()
 
 /// The promises.
 pub fn expired_bind_keeps_promises()
-    ensures { IsTrue (keeps_promises patient (played patient expired_bind_script)) }
+    ensures { IsTrue (keeps_promises impatient (played impatient expired_bind_script)) }
 {}
 
 /// The promises.
 pub fn drained_bind_keeps_promises()
-    ensures { IsTrue (keeps_promises short_lived (played short_lived drained_bind_script)) }
+    ensures { IsTrue (keeps_promises two_identifiers (played two_identifiers drained_bind_script)) }
 {}
 
 /// Shares of Binds that come late.
 pub fn late_binds_keep_shares()
     ensures missed { IsTrue (are_kept proxying (Desk ∷ Client 1 ∷ Connection 1 ∷ Connection 2 ∷ []) (played proxying missed_bind_script)) }
-    ensures expired { IsTrue (are_kept patient (Desk ∷ Client 1 ∷ Connection 1 ∷ Connection 2 ∷ []) (played patient expired_bind_script)) }
-    ensures drained { IsTrue (are_kept short_lived (Desk ∷ Client 1 ∷ Connection 1 ∷ Connection 2 ∷ []) (played short_lived drained_bind_script)) }
+    ensures expired { IsTrue (are_kept impatient (Desk ∷ Client 1 ∷ Connection 1 ∷ Connection 2 ∷ []) (played impatient expired_bind_script)) }
+    ensures drained { IsTrue (are_kept two_identifiers (Desk ∷ Client 1 ∷ Connection 1 ∷ Connection 2 ∷ []) (played two_identifiers drained_bind_script)) }
 {}
 
 /// The stamps.
 pub fn stamps_rise()
     ensures exchange { IsTrue (are_stamped (Desk ∷ Client 1 ∷ Connection 1 ∷ Connection 2 ∷ []) (played proxying exchange_script)) }
     ensures rebound { IsTrue (are_stamped (Desk ∷ Client 1 ∷ Connection 1 ∷ Connection 2 ∷ []) (played proxying rebound_script)) }
-    ensures drained { IsTrue (are_stamped (Desk ∷ Client 1 ∷ Connection 1 ∷ Connection 2 ∷ Connection 3 ∷ []) (played short_lived drained_script)) }
+    ensures drained { IsTrue (are_stamped (Desk ∷ Client 1 ∷ Connection 1 ∷ Connection 2 ∷ Connection 3 ∷ []) (played two_identifiers drained_script)) }
 {}

@@ -9,14 +9,13 @@ ghost use Rattle.lload_names.specs.declared.names.Answer.TheVariants.{Go};
 ghost use Rattle.lload_names.specs.declared.names.What.TheVariants.{Arrived, Asked, Chose, Chosen, Down, Gone, Got, Heard, In, Linked, Missed, Out, Own, Retired, Sent, Up};
 ghost use Rattle.lload_spec.specs.Plain.{plain};
 ghost use Rattle.ldap_spec.specs.Bodies.{protocol_error_notice, simple_bind};
-ghost use Rattle.spec_examples.specs.Configurations.{proxying, two_tiers};
+ghost use Rattle.spec_examples.specs.Configurations.{binding_itself, proxying, restricting, two_identifiers, two_tiers, write_coherent};
 ghost use Rattle.spec_examples.specs.Deletes.{delete_answered};
 ghost use Rattle.spec_examples.specs.Entries.{op, regular};
 ghost use Rattle.spec_examples.specs.Binds.{sasl_exchange, within_exchange};
 ghost use Rattle.spec_examples.specs.Choices.{first_tier_busy};
 ghost use Rattle.spec_examples.specs.Journals.{connection_lost, lost_behind_answer, search_abandoned, two_clients};
 ghost use Rattle.spec_examples.specs.Octets.{delete_body, delete_done, search_done};
-ghost use Rattle.part_examples.specs.Configurations.{coherent, restricting, short_lived, timed};
 ghost use Rattle.part_examples.specs.Octets.{hex};
 ghost use Rattle.part_examples.specs.World.{journal_of, played, reads, upstream_reads, whats_of};
 ghost use Rattle.part_examples.specs.Scripts.{abandon_script, anonymous_script, bad_answer_script, bound_script, busy_script, delete_script, drained_script, empty_password_script, exchange_script, expired_script, great_id_script, long_delete_script, lost_behind_script, lost_script, missed_script, no_message_script, no_tier_script, rebound_script, returned_script, second_tier_script, start_tls_script, two_clients_script, unanswered_script, unfinished_script, unknown_script, window_script, within_script, zero_id_script};
@@ -91,8 +90,8 @@ pub fn a_bind_ends_the_others()
 
 /// A Search goes where the write went, until five seconds behind its end.
 pub fn a_window_of_coherence()
-    ensures first { upstream_reads (played coherent window_script) 1 ≡ hex (codes "300C020101660704036F3D613000") ∷ hex (codes "3025020102632004000A01000A0100020100020100010100870B6F626A656374436C6173733000") ∷ [] }
-    ensures second { upstream_reads (played coherent window_script) 2 ≡ hex (codes "3025020101632004000A01000A0100020100020100010100870B6F626A656374436C6173733000") ∷ [] }
+    ensures first { upstream_reads (played write_coherent window_script) 1 ≡ hex (codes "300C020101660704036F3D613000") ∷ hex (codes "3025020102632004000A01000A0100020100020100010100870B6F626A656374436C6173733000") ∷ [] }
+    ensures second { upstream_reads (played write_coherent window_script) 2 ≡ hex (codes "3025020101632004000A01000A0100020100020100010100870B6F626A656374436C6173733000") ∷ [] }
 {}
 
 /// A client that is bound to a lost connection is refused, until its next Bind.
@@ -104,9 +103,9 @@ pub fn a_bound_client()
 
 /// A connection retires at the limit of its identifiers, and goes down when nothing is left to do.
 pub fn a_drained_connection()
-    ensures connection { whats_of (played short_lived drained_script) (Connection 1) ≡ Linked ∷ Up ∷ Sent 1 (op 1 1) delete_body ∷ Sent 2 (op 1 2) delete_body ∷ Retired ∷ Got 1 delete_done ∷ Got 2 delete_done ∷ Down Drained ∷ [] }
-    ensures client { reads (played short_lived drained_script) 1 ≡ hex (codes "30240201036B1F0A0134040004186E6F20636F6E6E656374696F6E7320617661696C61626C65") ∷ hex (codes "300C0201016B070A010004000400") ∷ hex (codes "300C0201026B070A010004000400") ∷ [] }
-    ensures next { upstream_reads (played short_lived drained_script) 3 ≡ hex (codes "30080201014A036F3D61") ∷ [] }
+    ensures connection { whats_of (played two_identifiers drained_script) (Connection 1) ≡ Linked ∷ Up ∷ Sent 1 (op 1 1) delete_body ∷ Sent 2 (op 1 2) delete_body ∷ Retired ∷ Got 1 delete_done ∷ Got 2 delete_done ∷ Down Drained ∷ [] }
+    ensures client { reads (played two_identifiers drained_script) 1 ≡ hex (codes "30240201036B1F0A0134040004186E6F20636F6E6E656374696F6E7320617661696C61626C65") ∷ hex (codes "300C0201016B070A010004000400") ∷ hex (codes "300C0201026B070A010004000400") ∷ [] }
+    ensures next { upstream_reads (played two_identifiers drained_script) 3 ≡ hex (codes "30080201014A036F3D61") ∷ [] }
 {}
 
 /// The greatest identifier is served; identifier 0, and bytes that are no message, end the client.
@@ -127,13 +126,13 @@ pub fn start_tls_is_refused()
 
 /// The own Bind goes first; an operation that isn't answered in time is refused and abandoned.
 pub fn an_operation_expires()
-    ensures upstream { upstream_reads (played timed expired_script) 1 ≡ hex (codes "3011020101600C0201030404636E3D70800173") ∷ hex (codes "30080201024A036F3D61") ∷ hex (codes "3006020103500102") ∷ [] }
-    ensures client { reads (played timed expired_script) 1 ≡ hex (codes "301F0201056B1A0A010B040004136F7065726174696F6E2074696D6564206F7574") ∷ [] }
+    ensures upstream { upstream_reads (played binding_itself expired_script) 1 ≡ hex (codes "3011020101600C0201030404636E3D70800173") ∷ hex (codes "30080201024A036F3D61") ∷ hex (codes "3006020103500102") ∷ [] }
+    ensures client { reads (played binding_itself expired_script) 1 ≡ hex (codes "301F0201056B1A0A010B040004136F7065726174696F6E2074696D6564206F7574") ∷ [] }
 {}
 
 /// An own Bind that isn't answered in time takes the connection down.
 pub fn the_own_bind_expires()
-    ensures connection { whats_of (played timed unanswered_script) (Connection 1) ≡ Linked ∷ Own 1 (simple_bind (codes "cn=p") (codes "s")) ∷ Down TimedOut ∷ [] }
+    ensures connection { whats_of (played binding_itself unanswered_script) (Connection 1) ≡ Linked ∷ Own 1 (simple_bind (codes "cn=p") (codes "s")) ∷ Down TimedOut ∷ [] }
 {}
 
 /// An answer of another kind takes the connection down, and the request is refused.

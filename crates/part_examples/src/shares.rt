@@ -4,12 +4,11 @@
 ghost use Rattle.std.specs.Prelude.{◌≡◌, ◌∷◌, [], IsTrue};
 ghost use Rattle.lload_names.specs.declared.names.PartName.TheVariants.{Desk, Client, Up as Connection};
 ghost use Rattle.lload_spec.specs.Plain.{plain};
-ghost use Rattle.spec_examples.specs.Configurations.{proxying, two_tiers};
+ghost use Rattle.spec_examples.specs.Configurations.{binding_itself, proxying, restricting, two_identifiers, two_tiers, write_coherent};
 ghost use Rattle.spec_examples.specs.Deletes.{delete_answered};
 ghost use Rattle.spec_examples.specs.Binds.{sasl_exchange, within_exchange};
 ghost use Rattle.spec_examples.specs.Choices.{first_tier_busy};
 ghost use Rattle.spec_examples.specs.Journals.{connection_lost, search_abandoned};
-ghost use Rattle.part_examples.specs.Configurations.{coherent, restricting, short_lived, timed};
 ghost use Rattle.part_examples.specs.World.{played};
 ghost use Rattle.part_examples.specs.Shares.{are_kept, all_given, all_posted};
 ghost use Rattle.part_examples.specs.Scripts.{abandon_script, bad_answer_script, bound_script, busy_script, delete_script, drained_script, exchange_script, expired_script, great_id_script, lost_behind_script, lost_script, missed_script, no_message_script, no_tier_script, rebound_script, returned_script, start_tls_script, two_clients_script, unanswered_script, unfinished_script, unknown_script, window_script, within_script, zero_id_script};
@@ -36,19 +35,19 @@ pub fn exchanges_keep_shares()
 /// Binds, and what binds a client.
 pub fn binds_keep_shares()
     ensures the_rebound_client { IsTrue (are_kept proxying (Desk ∷ Client 1 ∷ Connection 1 ∷ Connection 2 ∷ []) (played proxying rebound_script)) }
-    ensures the_window { IsTrue (are_kept coherent (Desk ∷ Client 1 ∷ Connection 1 ∷ Connection 2 ∷ []) (played coherent window_script)) }
+    ensures the_window { IsTrue (are_kept write_coherent (Desk ∷ Client 1 ∷ Connection 1 ∷ Connection 2 ∷ []) (played write_coherent window_script)) }
     ensures the_bound_client { IsTrue (are_kept restricting (Desk ∷ Client 1 ∷ Connection 1 ∷ Connection 2 ∷ Connection 3 ∷ []) (played restricting bound_script)) }
 {}
 
 /// Identifiers, refusals and expiries.
 pub fn ends_keep_shares()
-    ensures the_drained_connection { IsTrue (are_kept short_lived (Desk ∷ Client 1 ∷ Connection 1 ∷ Connection 2 ∷ Connection 3 ∷ []) (played short_lived drained_script)) }
+    ensures the_drained_connection { IsTrue (are_kept two_identifiers (Desk ∷ Client 1 ∷ Connection 1 ∷ Connection 2 ∷ Connection 3 ∷ []) (played two_identifiers drained_script)) }
     ensures the_greatest_identifier { IsTrue (are_kept plain (Desk ∷ Client 1 ∷ Connection 1 ∷ []) (played plain great_id_script)) }
     ensures identifier_0 { IsTrue (are_kept plain (Desk ∷ Client 1 ∷ Connection 1 ∷ []) (played plain zero_id_script)) }
     ensures the_bad_bytes { IsTrue (are_kept plain (Desk ∷ Client 1 ∷ Connection 1 ∷ []) (played plain no_message_script)) }
     ensures start_tls { IsTrue (are_kept plain (Desk ∷ Client 1 ∷ Connection 1 ∷ []) (played plain start_tls_script)) }
-    ensures the_expired_operation { IsTrue (are_kept timed (Desk ∷ Client 1 ∷ Connection 1 ∷ []) (played timed expired_script)) }
-    ensures the_expired_own_bind { IsTrue (are_kept timed (Desk ∷ Connection 1 ∷ []) (played timed unanswered_script)) }
+    ensures the_expired_operation { IsTrue (are_kept binding_itself (Desk ∷ Client 1 ∷ Connection 1 ∷ []) (played binding_itself expired_script)) }
+    ensures the_expired_own_bind { IsTrue (are_kept binding_itself (Desk ∷ Connection 1 ∷ []) (played binding_itself unanswered_script)) }
 {}
 
 /// Bad answers, and letters that come late.
