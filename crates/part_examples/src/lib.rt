@@ -9,5 +9,6 @@ pub mod journals;
 pub mod letters;
 pub mod promises;
 pub mod rows;
+pub mod rule_shares;
 pub mod shares;
 pub mod wrong_lists;
