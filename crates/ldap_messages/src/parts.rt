@@ -6,10 +6,10 @@ use ber_envelope::element_at;
 
 /// The first element of some bytes, by its tag, its contents, and what stands behind it.
 #[derive(Clone, Copy)]
-pub(crate) struct Part<'a> {
-    pub(crate) tag: u8,
-    pub(crate) contents: &'a [u8],
-    pub(crate) behind: &'a [u8],
+pub struct Part<'a> {
+    pub tag: u8,
+    pub contents: &'a [u8],
+    pub behind: &'a [u8],
 }
 
 /// The first element, where one is whole.
@@ -25,8 +25,8 @@ pub(crate) fn first_part(bytes: &[u8]) -> Option<Part<'_>>
     })
 }
 
-/// The first element, where one is whole and has this tag.
-pub(crate) fn tagged_part(bytes: &[u8], tag: u8) -> Option<Part<'_>>
+/// The first element, where one is whole and has this tag. It lends parts of the bytes and takes no memory.
+pub fn tagged_part(bytes: &[u8], tag: u8) -> Option<Part<'_>>
     ensures first { MatchOption result (first_tagged tag bytes.now ≡ None) (λ p. IsFirst (first_tagged tag bytes.now) p) }
     ensures lent { IfSome result (ArePartsOf bytes.now) }
 {

@@ -1,5 +1,7 @@
 ghost use Rattle.std.specs.Prelude.{◌≡◌, ◌≤◌, length, IfOk};
-ghost use Rattle.ldap_spec.specs.Bodies.{refusal, refusal_code as code_of_refusal, refusal_text as text_of_refusal, timeout_code as code_of_timeout};
+ghost use Rattle.ldap_spec.specs.Bodies.{refusal, refusal_code as code_of_refusal, refusal_text as text_of_refusal, result_fields, timeout_code as code_of_timeout};
+ghost use Rattle.ldap_spec.specs.Elements.{written};
+ghost use Rattle.ldap_spec.specs.Kinds.{response_tag};
 
 use crate::bodies::{element, result_of};
 use crate::responses::final_tag;
@@ -10,7 +12,15 @@ use std::alloc::Global;
 pub fn refusal_rest(alloc: Global, kind: OpKind, which: Refusal) -> Result<Body, NoMemory>
     ensures { IfOk result (λ body. body ≡ refusal kind which) }
 {
-    let fields = result_of(alloc, refusal_code(kind, which), refusal_text(which))?;
+    result_rest(alloc, kind, refusal_code(kind, which), refusal_text(which))
+}
+
+/// The last response to a request of this kind, with a code and a diagnostic message alone (RFC 4511, section 4.1.9).
+pub fn result_rest(alloc: Global, kind: OpKind, code: u8, text: &str) -> Result<Body, NoMemory>
+    requires { length text.now ≤ 64 }
+    ensures { IfOk result (λ body. body ≡ written (response_tag kind) (result_fields code text.now)) }
+{
+    let fields = result_of(alloc, code, text)?;
     element(alloc, final_tag(kind), fields.as_slice())
 }
 
@@ -23,7 +33,7 @@ fn refusal_code(kind: OpKind, which: Refusal) -> u8
         Refusal::C3 | Refusal::C4 => 52,
         Refusal::C5 => timeout_code(kind),
         Refusal::C6 => 53,
-        Refusal::C7 | Refusal::C10 | Refusal::C11 | Refusal::C12 => 2,
+        Refusal::C7 | Refusal::C10 | Refusal::C11 => 2,
         Refusal::C8 => 123,
         Refusal::C9 => 80,
     }
@@ -56,6 +66,5 @@ fn refusal_text(which: Refusal) -> &'static str
         Refusal::C9 => "identity not known",
         Refusal::C10 => "TLS not supported",
         Refusal::C11 => "LDAP version not supported",
-        Refusal::C12 => "cancel not supported",
     }
 }

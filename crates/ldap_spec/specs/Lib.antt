@@ -1,9 +1,10 @@
 pub mod Elements
 pub mod Messages
+pub mod Tags
 pub mod Kinds
+pub mod Controls
 pub mod Requests
 pub mod Responses
-pub mod Controls
 pub mod Bodies
 pub mod Streams
 pub mod Framing

@@ -1,19 +1,16 @@
 -- What some choices come to, and what one more choice or an entry behind them makes of it.
-use Rattle.std.proofs.Common.{◌≡◌, ℕ, zero, suc, subst, ◌+◌, ◌-◌, ◌*◌, max, Bool, true, false, ◌==◌, ◌&&◌, ◌||◌, not, List, [], ◌∷◌, ◌++◌, refl, ap, ◌∙◌, sym, length, append_assoc, arith, ℤ, pos, negsuc}
-use Rattle.std.specs.Prelude.{⊤, Option, Some, None, if◌then◌else◌, map, filter, cond, option_map, is_none, nat_lt}
-use Rattle.std.specs.List.{list_any}
+use Rattle.std.proofs.Common.{◌≡◌, ℕ, zero, suc, subst, ◌+◌, ◌-◌, max, Bool, true, false, ◌&&◌, not, List, [], ◌∷◌, ◌++◌, refl, ap, ◌∙◌, sym, length, append_assoc, arith}
+use Rattle.std.specs.Prelude.{⊤, Option, Some, None, map, filter, cond, is_none}
 use Rattle.std.specs.Option.{option_or}
-use Rattle.std.proofs.lemmas.List.{append-nil}
+use Rattle.std.proofs.lemmas.List.{append-nil, length-append}
 use Rattle.std.proofs.lemmas.List.Elements.{filter-append}
-use Rattle.std.proofs.lemmas.Bool.Decides.{nat_tests}
 use Rattle.ldap_spec.specs.Messages.{Message}
 use Rattle.lload_names.specs.declared.names.Entry.{Entry}
-use Rattle.lload_names.specs.declared.names.Bound.TheVariants.{Free, Backend as ToBackend, Conn as ToConnection}
 use Rattle.lload_spec.specs.Lists.{first, last}
 use Rattle.lload_spec.specs.Settings.{Settings, Action, Ignore, Write, BindBackend, BindConnection, Reject, backend_of}
 use Rattle.lload_spec.specs.Operations.{Operation, Manner, Ending, ending, ending_from, ending_or, manner_of, is_live}
-use Rattle.lload_spec.specs.Binding.{Choice, action, is_action, with_action, latest_end, is_within, has_coherence, binding_by, binding_by_backend, binding_by_write}
-use Rattle.lload_spec.specs.BindingCalls.{Call, WriteEnded, Standing, binding_of, strongest, is_open}
+use Rattle.lload_spec.specs.Binding.{Choice, action, is_action, with_action, latest_end, connection_of, backend_by, live_count, standing_by}
+use Rattle.lload_spec.specs.BindingCalls.{Call, WriteEnded, Standing}
 use Rattle.lload_spec.specs.ClientCalls.{hold_of, call_by, call_of, calls_for, end_calls, is_ended_by}
 use Rattle.lload_spec.specs.Laws.{extended}
 use Rattle.lload_spec.proofs.Growth.{end_stays}
@@ -29,22 +26,9 @@ pub after_append : (cs ds : List Call) (w : Standing) → after_all (cs ++ ds) w
 after_append [] ds w = refl
 after_append (c ∷ cs) ds w = after_append cs ds (after c w)
 
--- how many operations of choices are live
-abbrev pub live_count : List Choice → ℕ
-live_count [] = 0
-live_count (x ∷ xs) = (if is_live x.operation then 1 else 0) + live_count xs
-
--- what some choices come to
-abbrev pub sum_of : Settings → List Choice → Standing
-sum_of s xs =
-    record {
-      seconds = s.write_coherence;
-      connection = first (map (λ x. x.connection) (with_action s BindConnection xs));
-      backend = first (map (λ x. backend_of s x.connection) (with_action s BindBackend xs));
-      write = last (map (λ x. backend_of s x.connection) (with_action s Write xs));
-      live = live_count (with_action s Write xs);
-      ended = latest_end 0 (with_action s Write xs);
-    }
+-- what the choices that bind to connections, that bind to backends, and that write say of the window
+abbrev standing_with : Settings → List Choice → List Choice → List Choice → Standing
+standing_with s cs bs ws = record { seconds = s.write_coherence; connection = connection_of (first cs); backend = backend_by s (first bs); write = backend_by s (last ws); live = live_count ws; ended = latest_end 0 ws }
 
 -- one more choice
 with-push : (s : Settings) (a : Action) (xs : List Choice) (x : Choice) (b : Bool) → is_action a (action s x.operation.request.rest) ≡ b → with_action s a (xs ++ x ∷ []) ≡ with_action s a xs ++ cond b (x ∷ []) []
@@ -53,18 +37,24 @@ with-push s a xs x b e = filter-append (λ y. is_action a (action s y.operation.
 with-same : (s : Settings) (a : Action) (xs : List Choice) (x : Choice) → is_action a (action s x.operation.request.rest) ≡ false → with_action s a (xs ++ x ∷ []) ≡ with_action s a xs
 with-same s a xs x e = with-push s a xs x false e ∙ append-nil (with_action s a xs)
 
-first-push : (f : Choice → ℕ) (xs : List Choice) (x : Choice) → first (map f (xs ++ x ∷ [])) ≡ option_or (first (map f xs)) (Some (f x))
-first-push f [] x = refl
-first-push f (y ∷ ys) x = refl
+connection-push : (xs : List Choice) (x : Choice) → connection_of (first (xs ++ x ∷ [])) ≡ option_or (connection_of (first xs)) (Some x.connection)
+connection-push [] x = refl
+connection-push (y ∷ ys) x = refl
 
-last-push : (f : Choice → ℕ) (xs : List Choice) (x : Choice) → last (map f (xs ++ x ∷ [])) ≡ Some (f x)
-last-push f [] x = refl
-last-push f (y ∷ []) x = refl
-last-push f (y ∷ z ∷ zs) x = last-push f (z ∷ zs) x
+backend-push : (s : Settings) (xs : List Choice) (x : Choice) → backend_by s (first (xs ++ x ∷ [])) ≡ option_or (backend_by s (first xs)) (Some (backend_of s x.connection))
+backend-push s [] x = refl
+backend-push s (y ∷ ys) x = refl
+
+last-push : (s : Settings) (xs : List Choice) (x : Choice) → backend_by s (last (xs ++ x ∷ [])) ≡ Some (backend_of s x.connection)
+last-push s [] x = refl
+last-push s (y ∷ []) x = refl
+last-push s (y ∷ z ∷ zs) x = last-push s (z ∷ zs) x
+
+abbrev live_of : List Choice → List Choice
+live_of xs = filter (λ x. is_live x.operation) xs
 
 live-push : (xs : List Choice) (x : Choice) → is_live x.operation ≡ true → live_count (xs ++ x ∷ []) ≡ live_count xs + 1
-live-push [] x l = ap (λ b. (if b then 1 else 0) + 0) l
-live-push (y ∷ ys) x l = let e = live-push ys x l in omega (arith, e)
+live-push xs x l = ap length (filter-append (λ y. is_live y.operation) xs (x ∷ []) ∙ ap (λ b. live_of xs ++ cond b (x ∷ []) []) l) ∙ length-append (live_of xs) (x ∷ [])
 
 none-of : {A : Type 0} (o : Option A) → is_none o ≡ true → o ≡ None
 none-of None h = refl
@@ -79,45 +69,45 @@ end-push at [] x e = ap (later_than at) e
 end-push at (y ∷ ys) x e = end-push (later_than at (ending y.operation)) ys x e
 
 -- one more choice whose operation is live is one more call, where its action binds
-pub sum-push : (s : Settings) (xs : List Choice) (x : Choice) (a : Action) → action s x.operation.request.rest ≡ a → is_live x.operation ≡ true → sum_of s (xs ++ x ∷ []) ≡ after_all (call_by x.connection (backend_of s x.connection) (hold_of a)) (sum_of s xs)
+pub sum-push : (s : Settings) (xs : List Choice) (x : Choice) (a : Action) → action s x.operation.request.rest ≡ a → is_live x.operation ≡ true → standing_by s (xs ++ x ∷ []) ≡ after_all (call_by x.connection (backend_of s x.connection) (hold_of a)) (standing_by s xs)
 sum-push s xs x Ignore e l =
     let c = with-same s BindConnection xs x (ap (is_action BindConnection) e) in
     let b = with-same s BindBackend xs x (ap (is_action BindBackend) e) in
     let w = with-same s Write xs x (ap (is_action Write) e) in
-    λ i. record { seconds = s.write_coherence; connection = first (map (λ y. y.connection) (c i)); backend = first (map (λ y. backend_of s y.connection) (b i)); write = last (map (λ y. backend_of s y.connection) (w i)); live = live_count (w i); ended = latest_end 0 (w i) }
+    λ i. standing_with s (c i) (b i) (w i)
 sum-push s xs x Reject e l =
     let c = with-same s BindConnection xs x (ap (is_action BindConnection) e) in
     let b = with-same s BindBackend xs x (ap (is_action BindBackend) e) in
     let w = with-same s Write xs x (ap (is_action Write) e) in
-    λ i. record { seconds = s.write_coherence; connection = first (map (λ y. y.connection) (c i)); backend = first (map (λ y. backend_of s y.connection) (b i)); write = last (map (λ y. backend_of s y.connection) (w i)); live = live_count (w i); ended = latest_end 0 (w i) }
+    λ i. standing_with s (c i) (b i) (w i)
 sum-push s xs x BindBackend e l =
     let c = with-same s BindConnection xs x (ap (is_action BindConnection) e) in
-    let b = ap (λ ys. first (map (λ y. backend_of s y.connection) ys)) (with-push s BindBackend xs x true (ap (is_action BindBackend) e)) ∙ first-push (λ y. backend_of s y.connection) (with_action s BindBackend xs) x in
+    let b = ap (λ ys. backend_by s (first ys)) (with-push s BindBackend xs x true (ap (is_action BindBackend) e)) ∙ backend-push s (with_action s BindBackend xs) x in
     let w = with-same s Write xs x (ap (is_action Write) e) in
-    λ i. record { seconds = s.write_coherence; connection = first (map (λ y. y.connection) (c i)); backend = b i; write = last (map (λ y. backend_of s y.connection) (w i)); live = live_count (w i); ended = latest_end 0 (w i) }
+    λ i. record { seconds = s.write_coherence; connection = connection_of (first (c i)); backend = b i; write = backend_by s (last (w i)); live = live_count (w i); ended = latest_end 0 (w i) }
 sum-push s xs x BindConnection e l =
-    let c = ap (λ ys. first (map (λ y. y.connection) ys)) (with-push s BindConnection xs x true (ap (is_action BindConnection) e)) ∙ first-push (λ y. y.connection) (with_action s BindConnection xs) x in
+    let c = ap (λ ys. connection_of (first ys)) (with-push s BindConnection xs x true (ap (is_action BindConnection) e)) ∙ connection-push (with_action s BindConnection xs) x in
     let b = with-same s BindBackend xs x (ap (is_action BindBackend) e) in
     let w = with-same s Write xs x (ap (is_action Write) e) in
-    λ i. record { seconds = s.write_coherence; connection = c i; backend = first (map (λ y. backend_of s y.connection) (b i)); write = last (map (λ y. backend_of s y.connection) (w i)); live = live_count (w i); ended = latest_end 0 (w i) }
+    λ i. record { seconds = s.write_coherence; connection = c i; backend = backend_by s (first (b i)); write = backend_by s (last (w i)); live = live_count (w i); ended = latest_end 0 (w i) }
 sum-push s xs x Write e l =
     let c = with-same s BindConnection xs x (ap (is_action BindConnection) e) in
     let b = with-same s BindBackend xs x (ap (is_action BindBackend) e) in
     let p = with-push s Write xs x true (ap (is_action Write) e) in
     let ws = with_action s Write xs in
-    let w = ap (λ ys. last (map (λ y. backend_of s y.connection) ys)) p ∙ last-push (λ y. backend_of s y.connection) ws x in
+    let w = ap (λ ys. backend_by s (last ys)) p ∙ last-push s ws x in
     let n = ap live_count p ∙ live-push ws x l in
     let m = ap (latest_end 0) p ∙ end-push 0 ws x (none-of (ending x.operation) l) in
-    λ i. record { seconds = s.write_coherence; connection = first (map (λ y. y.connection) (c i)); backend = first (map (λ y. backend_of s y.connection) (b i)); write = w i; live = n i; ended = m i }
+    λ i. record { seconds = s.write_coherence; connection = connection_of (first (c i)); backend = backend_by s (first (b i)); write = w i; live = n i; ended = m i }
 
 -- several
 abbrev pub AllLive : List Choice → Type 0
 AllLive [] = ⊤
 AllLive (x ∷ xs) = (is_live x.operation ≡ true) × AllLive xs
 
-pub sum-more : (s : Settings) (xs ys : List Choice) → AllLive ys → sum_of s (xs ++ ys) ≡ after_all (calls_for s ys) (sum_of s xs)
-sum-more s xs [] l = ap (sum_of s) (append-nil xs)
-sum-more s xs (y ∷ ys) l = ap (sum_of s) (sym (append_assoc xs (y ∷ []) ys)) ∙ sum-more s (xs ++ y ∷ []) ys l.1 ∙ ap (after_all (calls_for s ys)) (sum-push s xs y (action s y.operation.request.rest) refl l.0) ∙ sym (after_append (call_of s y) (calls_for s ys) (sum_of s xs))
+pub sum-more : (s : Settings) (xs ys : List Choice) → AllLive ys → standing_by s (xs ++ ys) ≡ after_all (calls_for s ys) (standing_by s xs)
+sum-more s xs [] l = ap (standing_by s) (append-nil xs)
+sum-more s xs (y ∷ ys) l = ap (standing_by s) (sym (append_assoc xs (y ∷ []) ys)) ∙ sum-more s (xs ++ y ∷ []) ys l.1 ∙ ap (after_all (calls_for s ys)) (sum-push s xs y (action s y.operation.request.rest) refl l.0) ∙ sym (after_append (call_of s y) (calls_for s ys) (standing_by s xs))
 
 -- an entry behind some choices
 abbrev pub later_choice : Entry → Choice → Choice
@@ -126,13 +116,18 @@ later_choice e x = record x { operation = record x.operation { behind = x.operat
 with-later : (s : Settings) (e : Entry) (a : Action) (xs : List Choice) → with_action s a (map (later_choice e) xs) ≡ map (later_choice e) (with_action s a xs)
 with-later s e a xs = filter-map (λ y. is_action a (action s y.operation.request.rest)) (later_choice e) xs
 
-connections-later : (e : Entry) (xs : List Choice) → map (λ y. y.connection) (map (later_choice e) xs) ≡ map (λ y. y.connection) xs
+connections-later : (e : Entry) (xs : List Choice) → connection_of (first (map (later_choice e) xs)) ≡ connection_of (first xs)
 connections-later e [] = refl
-connections-later e (x ∷ xs) = ap (λ l. x.connection ∷ l) (connections-later e xs)
+connections-later e (x ∷ xs) = refl
 
-backends-later : (s : Settings) (e : Entry) (xs : List Choice) → map (λ y. backend_of s y.connection) (map (later_choice e) xs) ≡ map (λ y. backend_of s y.connection) xs
+backends-later : (s : Settings) (e : Entry) (xs : List Choice) → backend_by s (first (map (later_choice e) xs)) ≡ backend_by s (first xs)
 backends-later s e [] = refl
-backends-later s e (x ∷ xs) = ap (λ l. backend_of s x.connection ∷ l) (backends-later s e xs)
+backends-later s e (x ∷ xs) = refl
+
+writes-later : (s : Settings) (e : Entry) (xs : List Choice) → backend_by s (last (map (later_choice e) xs)) ≡ backend_by s (last xs)
+writes-later s e [] = refl
+writes-later s e (x ∷ []) = refl
+writes-later s e (x ∷ y ∷ ys) = writes-later s e (y ∷ ys)
 
 -- what so many ends at a moment make of the latest
 abbrev raised : ℕ → ℕ → ℕ → ℕ
@@ -177,11 +172,11 @@ after_cases e o = by_end (ending o) refl
 abbrev ended_by : Entry → List Choice → List Choice
 ended_by e xs = filter (λ x. is_ended_by e x.operation) xs
 
-count-step : (l m : Bool) (x : Choice) (n k : ℕ) (zs : List Choice) → (m ≡ true → l ≡ true) → n + length zs ≡ k → ((if m then 1 else 0) + n) + length (cond (l && not m) (x ∷ zs) zs) ≡ (if l then 1 else 0) + k
-count-step true true x n k zs h e = omega (arith, e)
-count-step true false x n k zs h e = omega (arith, e)
-count-step false false x n k zs h e = omega (arith, e)
-count-step false true x n k zs h e = absurd (let bad : false ≡ true = h refl in cc)
+count-step : (l m : Bool) (x y : Choice) (ns zs ks : List Choice) → (m ≡ true → l ≡ true) → length ns + length zs ≡ length ks → length (cond m (y ∷ ns) ns) + length (cond (l && not m) (x ∷ zs) zs) ≡ length (cond l (x ∷ ks) ks)
+count-step true true x y ns zs ks h e = omega (arith, e)
+count-step true false x y ns zs ks h e = omega (arith, e)
+count-step false false x y ns zs ks h e = e
+count-step false true x y ns zs ks h e = absurd (let bad : false ≡ true = h refl in cc)
 
 live-before : (e : Entry) (o : Operation) → After e o → is_live (record o { behind = o.behind ++ e ∷ [] }) ≡ true → is_live o ≡ true
 live-before e o (Before y h g) t = absurd (let bad : false ≡ true = sym (ap is_none g) ∙ t in cc)
@@ -189,8 +184,8 @@ live-before e o (Here y a h g) t = ap is_none h
 live-before e o (Never h g) t = ap is_none h
 
 live-later : (e : Entry) (xs : List Choice) → live_count (map (later_choice e) xs) + length (ended_by e xs) ≡ live_count xs
-live-later e [] = omega arith
-live-later e (x ∷ xs) = count-step (is_live x.operation) (is_live (later_choice e x).operation) x (live_count (map (later_choice e) xs)) (live_count xs) (ended_by e xs) (live-before e x.operation (after_cases e x.operation)) (live-later e xs)
+live-later e [] = refl
+live-later e (x ∷ xs) = count-step (is_live x.operation) (is_live (later_choice e x).operation) x (later_choice e x) (live_of (map (later_choice e) xs)) (ended_by e xs) (live_of xs) (live-before e x.operation (after_cases e x.operation)) (live-later e xs)
 
 latest-max : (a b : ℕ) (xs : List Choice) → latest_end (max a b) xs ≡ max (latest_end a xs) b
 latest-max a b [] = refl
@@ -219,69 +214,17 @@ ends-later e at (x ∷ xs) = more (after_cases e x.operation) (λ m. ends-later 
     more (Here y a h g) ih = settled None (Some y) h g (ap (λ m. latest_end (max at m) (map (later_choice e) xs)) a ∙ ih (max at e.at) ∙ ap (λ m. raised (length zs) m e.at) (latest-max at e.at xs) ∙ raised-more (length zs) (latest_end at xs) e.at)
 
 -- an entry behind some choices is a call for each write that it ends
-pub sum-later : (s : Settings) (e : Entry) (xs : List Choice) → sum_of s (map (later_choice e) xs) ≡ after_all (end_calls s e xs) (sum_of s xs)
+pub sum-later : (s : Settings) (e : Entry) (xs : List Choice) → standing_by s (map (later_choice e) xs) ≡ after_all (end_calls s e xs) (standing_by s xs)
 sum-later s e xs =
     let cs = with_action s BindConnection xs in
     let bs = with_action s BindBackend xs in
     let ws = with_action s Write xs in
-    let c = ap (λ l. first (map (λ y. y.connection) l)) (with-later s e BindConnection xs) ∙ ap first (connections-later e cs) in
-    let b = ap (λ l. first (map (λ y. backend_of s y.connection) l)) (with-later s e BindBackend xs) ∙ ap first (backends-later s e bs) in
-    let w = ap (λ l. last (map (λ y. backend_of s y.connection) l)) (with-later s e Write xs) ∙ ap last (backends-later s e ws) in
+    let c = ap (λ l. connection_of (first l)) (with-later s e BindConnection xs) ∙ connections-later e cs in
+    let b = ap (λ l. backend_by s (first l)) (with-later s e BindBackend xs) ∙ backends-later s e bs in
+    let w = ap (λ l. backend_by s (last l)) (with-later s e Write xs) ∙ writes-later s e ws in
     let count = live-later e ws in
     let fewer : live_count (map (later_choice e) ws) ≡ live_count ws - length (ended_by e ws) = omega (arith, count) in
     let n = ap live_count (with-later s e Write xs) ∙ fewer in
     let m = ap (latest_end 0) (with-later s e Write xs) ∙ ends-later e 0 ws in
-    let path : sum_of s (map (later_choice e) xs) ≡ record (sum_of s xs) { live = live_count ws - length (ended_by e ws); ended = raised (length (ended_by e ws)) (latest_end 0 ws) e.at } = λ i. record { seconds = s.write_coherence; connection = c i; backend = b i; write = w i; live = n i; ended = m i } in
-    path ∙ sym (ended-sum e.at (ended_by e ws) (sum_of s xs))
-
--- what is bound by some choices
-any-live : (xs : List Choice) → list_any (λ w. is_live w.operation) xs ≡ nat_lt 0 (live_count xs)
-any-live [] = refl
-any-live (x ∷ xs) = more (is_live x.operation) (any-live xs)
-  where
-    more : (b : Bool) → list_any (λ w. is_live w.operation) xs ≡ nat_lt 0 (live_count xs) → (b || list_any (λ w. is_live w.operation) xs) ≡ nat_lt 0 ((if b then 1 else 0) + live_count xs)
-    more true h = grind (arith, nat_tests)
-    more false h = h ∙ (let e : live_count xs ≡ 0 + live_count xs = omega arith in ap (nat_lt 0) e)
-
-twice : (p q r : Bool) → (p && (q || (p && r))) ≡ (p && (q || r))
-twice true q r = refl
-twice false q r = refl
-
-or-true : (q : Bool) → (q || true) ≡ true
-or-true true = refl
-or-true false = refl
-
-open-same : (n : ℤ) (ws : List Choice) (t : ℕ) → (has_coherence n && (list_any (λ w. is_live w.operation) ws || is_within n ws t)) ≡ is_open n (live_count ws) (latest_end 0 ws) t
-open-same (pos n) ws t = twice (not (n == 0)) (list_any (λ w. is_live w.operation) ws) (nat_lt t (latest_end 0 ws + 1000 * n)) ∙ ap (λ b. not (n == 0) && (b || nat_lt t (latest_end 0 ws + 1000 * n))) (any-live ws)
-open-same (negsuc n) ws t = or-true (list_any (λ w. is_live w.operation) ws)
-
-last-map : (f : Choice → ℕ) (xs : List Choice) → last (map f xs) ≡ option_map f (last xs)
-last-map f [] = refl
-last-map f (x ∷ []) = refl
-last-map f (x ∷ y ∷ ys) = last-map f (y ∷ ys)
-
-by-write : (f : Choice → ℕ) (b : Bool) (o : Option Choice) → elim o [ None ↦ Free | Some x ↦ if b then ToBackend (f x) else Free ] ≡ strongest None None (if b then option_map f o else None)
-by-write f true None = refl
-by-write f false None = refl
-by-write f true (Some x) = refl
-by-write f false (Some x) = refl
-
-write-sum : (s : Settings) (t : ℕ) (ws : List Choice) → binding_by_write s t ws ≡ strongest None None (if is_open s.write_coherence (live_count ws) (latest_end 0 ws) t then last (map (λ y. backend_of s y.connection) ws) else None)
-write-sum s t ws = by-write (λ y. backend_of s y.connection) (has_coherence s.write_coherence && (list_any (λ w. is_live w.operation) ws || is_within s.write_coherence ws t)) (last ws) ∙ ap (λ b. strongest None None (if b then option_map (λ y. backend_of s y.connection) (last ws) else None)) (open-same s.write_coherence ws t) ∙ ap (λ o. strongest None None (if is_open s.write_coherence (live_count ws) (latest_end 0 ws) t then o else None)) (sym (last-map (λ y. backend_of s y.connection) ws))
-
-pub binding-sum : (s : Settings) (t : ℕ) (xs : List Choice) → binding_by s t xs ≡ binding_of (sum_of s xs) t
-binding-sum s t xs = by_connection (with_action s BindConnection xs)
-  where
-    ws : List Choice
-    ws = with_action s Write xs
-
-    opened : Option ℕ
-    opened = if is_open s.write_coherence (live_count ws) (latest_end 0 ws) t then last (map (λ y. backend_of s y.connection) ws) else None
-
-    by_backend : (bs : List Choice) → elim (first bs) [ Some x ↦ ToBackend (backend_of s x.connection) | None ↦ binding_by_write s t ws ] ≡ strongest None (first (map (λ y. backend_of s y.connection) bs)) opened
-    by_backend [] = write-sum s t ws
-    by_backend (x ∷ bs) = refl
-
-    by_connection : (cs : List Choice) → elim (first cs) [ Some x ↦ ToConnection x.connection | None ↦ binding_by_backend s t xs ] ≡ strongest (first (map (λ y. y.connection) cs)) (first (map (λ y. backend_of s y.connection) (with_action s BindBackend xs))) opened
-    by_connection [] = by_backend (with_action s BindBackend xs)
-    by_connection (x ∷ cs) = refl
+    let path : standing_by s (map (later_choice e) xs) ≡ record (standing_by s xs) { live = live_count ws - length (ended_by e ws); ended = raised (length (ended_by e ws)) (latest_end 0 ws) e.at } = λ i. record { seconds = s.write_coherence; connection = c i; backend = b i; write = w i; live = n i; ended = m i } in
+    path ∙ sym (ended-sum e.at (ended_by e ws) (standing_by s xs))

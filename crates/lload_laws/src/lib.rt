@@ -2,45 +2,27 @@
 //!
 //! The functions have empty bodies, and their contracts are the laws. The layers above append entries to the lists
 //! of their parts, and prove what is promised of the longer list from what held of the shorter one by these laws:
-//! operations, Outs and ends of a client's list, Sent entries, answers and identifiers of a connection's list, and
-//! the parts of a journal. What a client is bound to by its list is what it is bound to by the calls that its part
-//! makes of the list, entry by entry.
+//! operations, Outs and ends of a client's list, and the Sent entries of a connection's list. What a client is bound to
+//! by its list is what it is bound to by the calls that its part makes of the list, entry by entry.
 #![tactic(auto)]
 
-ghost use Rattle.lload_laws.specs.ClientGrowth.{OperationsGrow, OutsGrow, AnyGrows, EndingGrows, SomeEntryGrows, OwnNames, NoneBeyond, NoneAtZero, SameOperations, NewOperation, OldOperations, CountRises, CountStays, AllOperationsGrow, HoldsOfNamed, NamedIsThere};
+ghost use Rattle.lload_laws.specs.ClientGrowth.{OperationsGrow, OutsGrow, EndingGrows, OwnNames, OldOperations, CountRises, CountStays, HoldsOfNamed};
 ghost use Rattle.lload_laws.specs.ClientBinding.{BoundByCalls};
-ghost use Rattle.lload_laws.specs.ConnectionGrowth.{SendingsGrow, AnswersGrow, GivenCountGrows};
-ghost use Rattle.lload_laws.specs.FamilyGrowth.{PartsAppend, ClientsAppend, ConnectionsAppend};
-
-/// The parts of a journal that grows.
-pub fn parts_grow()
-    ensures entries { PartsAppend }
-    ensures clients { ClientsAppend }
-    ensures connections { ConnectionsAppend }
-{}
+ghost use Rattle.lload_laws.specs.ConnectionGrowth.{SendingsGrow};
 
 /// The operations of a client's list that grows by an entry: each stays, and the entry may make one more.
 pub fn operations_grow()
     ensures grown { OperationsGrow }
     ensures count_rises { CountRises }
     ensures count_stays { CountStays }
-    ensures all { AllOperationsGrow }
 {}
 
-/// The operation of a name, in a client's list that grows by an entry.
-pub fn named_operations_grow()
-    ensures same { SameOperations }
-    ensures new { NewOperation }
-    ensures old { OldOperations }
-{}
-
-/// The names of a client's operations: the client, and the numbers from 1 to their count.
+/// The names of a client's operations: the client, and the numbers from 1 to their count. A name keeps its operation
+/// where the list grows by an entry.
 pub fn operations_are_named()
     ensures own { OwnNames }
-    ensures none_beyond { NoneBeyond }
-    ensures none_at_zero { NoneAtZero }
+    ensures old { OldOperations }
     ensures holds { HoldsOfNamed }
-    ensures there { NamedIsThere }
 {}
 
 /// What a client got and how an operation ended, in a client's list that grows by an entry.
@@ -49,17 +31,10 @@ pub fn outs_and_endings_grow()
     ensures ending { EndingGrows }
 {}
 
-/// Tests of some entry, in a list that grows by an entry.
-pub fn tests_of_some_grow()
-    ensures any { AnyGrows }
-    ensures looking_back { SomeEntryGrows }
-{}
-
-/// The Sent entries, answers and identifiers of a connection's list that grows by an entry.
+/// The Sent entries of a connection's list that grows by an entry: each stays, with the entry in its reign where it
+/// reigns, and then comes the entry where it is one.
 pub fn connections_grow()
     ensures sendings { SendingsGrow }
-    ensures answers { AnswersGrow }
-    ensures identifiers { GivenCountGrows }
 {}
 
 /// What a client is bound to by its list, at each place and at each moment, is what it is bound to by the calls that the

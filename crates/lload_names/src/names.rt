@@ -98,8 +98,22 @@ pub enum Refusal {
     C10,
     /// The Bind is of another version than 3.
     C11,
-    /// Cancel isn't supported.
-    C12,
+}
+
+/// The answers that the proxy gives to a Cancel and to the operation that it names (RFC 3909). Their texts stand with
+/// the written bodies.
+#[derive(Clone, Copy, Debug, PartialEq, Eq, Drop)]
+pub enum CancelAnswer {
+    /// To the Cancel: the named operation was ended.
+    S1,
+    /// To the named operation: it is canceled.
+    C13,
+    /// To the Cancel: no live operation of the client has the named identifier.
+    C14,
+    /// To the Cancel: it names itself, and a Cancel can't be canceled.
+    C15,
+    /// To the Cancel: its value can't be read.
+    C16,
 }
 
 /// Why a client's or an upstream connection's part ended.
@@ -200,6 +214,14 @@ pub enum Letter {
     IsDown {
         conn: u32,
     },
+    /// From a client to a regular connection: nothing more is to be read for it.
+    Pause {
+        client: u32,
+    },
+    /// From a client to a regular connection that it paused: it reads again, or is gone.
+    Resume {
+        client: u32,
+    },
 }
 
 impl Letter {
@@ -267,6 +289,8 @@ impl Letter {
             Letter::IsUp { conn } => Ok(Letter::IsUp { conn: *conn }),
             Letter::IsRetired { conn } => Ok(Letter::IsRetired { conn: *conn }),
             Letter::IsDown { conn } => Ok(Letter::IsDown { conn: *conn }),
+            Letter::Pause { client } => Ok(Letter::Pause { client: *client }),
+            Letter::Resume { client } => { Ok(Letter::Resume { client: *client }) }
         }
     }
 }
@@ -311,6 +335,10 @@ pub enum What {
     Gone {
         why: EndWhy,
     },
+    /// The client doesn't read what it is sent.
+    Stalled,
+    /// The client reads again.
+    Flowing,
     /// A connection's part begins.
     Linked,
     /// The connection takes operations from now on.
@@ -345,6 +373,14 @@ pub enum What {
     Idle {
         op: OpName,
     },
+    /// A stalled client wants nothing more read from the connection.
+    Paused {
+        client: u32,
+    },
+    /// The client no longer keeps the connection from being read.
+    Resumed {
+        client: u32,
+    },
     /// The connection's part ended.
     Down {
         why: EndWhy,
@@ -363,6 +399,11 @@ pub enum What {
     /// The desk heard this letter.
     Heard {
         letter: Letter,
+    },
+    /// The desk chooses by the plan of this number from now on, for connections above the base.
+    Replanned {
+        plan: u32,
+        base: u32,
     },
 }
 

@@ -3,13 +3,11 @@ use Rattle.std.proofs.Common.{◌≡◌, ℕ, Bool, true, false, ◌&&◌, ◌||
 use Rattle.std.specs.Prelude.{Option, Some, None, if◌then◌else◌, option_map}
 use Rattle.std.specs.Str.{bytes_eq}
 use Rattle.lload_names.specs.declared.names.Entry.{Entry}
-use Rattle.lload_names.specs.declared.names.OpKind.{OpKind}
-use Rattle.ldap_spec.specs.Kinds.{is_final}
 use Rattle.lload_spec.specs.Lists.{each_split_from, is_prefix}
 use Rattle.ldap_spec.specs.Messages.{Message}
-use Rattle.lload_spec.specs.Operations.{Manner, Ending, ending_or, ending_from, manner_of, is_final_for}
-use Rattle.lload_spec.specs.Answers.{answers_under, answer_of, with_later}
-use Rattle.lload_spec.specs.Fifo.{allowed, is_prefix_and_refusal}
+use Rattle.lload_spec.specs.Operations.{Manner, Ending, ending_or, ending_from, manner_of, is_final_for, is_final_to}
+use Rattle.lload_spec.specs.Answers.{answers_under, answer_of, with_later, gives_id, reign_of}
+use Rattle.lload_spec.specs.Fifo.{allowed, is_prefix_and_own}
 use Rattle.lload_spec.specs.Laws.{LooksBack, AnswersMayGrow, EndStays, extended}
 
 and-assoc : (a b c : Bool) → (a && (b && c)) ≡ ((a && b) && c)
@@ -61,21 +59,17 @@ prefix_grows (x ∷ xs) [] zs h = absurd (let bad : false ≡ true = h in cc)
 prefix_grows (x ∷ xs) (y ∷ ys) zs h = both (bytes_eq x y) _ (left (bytes_eq x y) _ h) (prefix_grows xs ys zs (right (bytes_eq x y) _ h))
 
 -- a prefix and a refusal stay so
-refusal_grows : (kind : OpKind) (ys xs zs : List (List ℕ)) → is_prefix_and_refusal kind ys xs ≡ true → is_prefix_and_refusal kind (ys ++ zs) xs ≡ true
+refusal_grows : (kind : List ℕ) (ys xs zs : List (List ℕ)) → is_prefix_and_own kind ys xs ≡ true → is_prefix_and_own kind (ys ++ zs) xs ≡ true
 refusal_grows _ ys [] zs h = absurd (let bad : false ≡ true = h in cc)
 refusal_grows _ ys (r ∷ []) zs h = h
 refusal_grows _ [] (r ∷ q ∷ rs) zs h = absurd (let bad : false ≡ true = h in cc)
-refusal_grows kind (a ∷ ys) (r ∷ q ∷ rs) zs h = both (bytes_eq r a && not (is_final kind a)) _ (left (bytes_eq r a && not (is_final kind a)) _ h) (refusal_grows kind ys (q ∷ rs) zs (right (bytes_eq r a && not (is_final kind a)) _ h))
+refusal_grows kind (a ∷ ys) (r ∷ q ∷ rs) zs h = both (bytes_eq r a && not (is_final_to kind a)) _ (left (bytes_eq r a && not (is_final_to kind a)) _ h) (refusal_grows kind ys (q ∷ rs) zs (right (bytes_eq r a && not (is_final_to kind a)) _ h))
 
 -- what is allowed stays so with more answers
-allowed_grows : (kind : Option OpKind) (ys xs zs : List (List ℕ)) → allowed kind ys xs ≡ true → allowed kind (ys ++ zs) xs ≡ true
-allowed_grows None ys xs zs h = prefix_grows xs ys zs h
-allowed_grows (Some kind) ys xs zs h = either (is_prefix xs ys) (is_prefix_and_refusal kind ys xs) _ _ (prefix_grows xs ys zs) (refusal_grows kind ys xs zs) h
+allowed_grows : (kind : List ℕ) (ys xs zs : List (List ℕ)) → allowed kind ys xs ≡ true → allowed kind (ys ++ zs) xs ≡ true
+allowed_grows kind ys xs zs h = either (is_prefix xs ys) (is_prefix_and_own kind ys xs) _ _ (prefix_grows xs ys zs) (refusal_grows kind ys xs zs) h
 
 -- the answers of a longer list are those of the list, and more
-Grown : Message → ℕ → List Entry → List Entry → Type 0
-Grown o id L M = (more : List (List ℕ)) × (answers_under o id (L ++ M) ≡ answers_under o id L ++ more)
-
 grown_by : (b : Bool) (r : List ℕ) (ys zs : List (List ℕ)) → (more : List (List ℕ)) × (zs ≡ ys ++ more) → (more : List (List ℕ)) × (r ∷ (if b then [] else zs) ≡ (r ∷ (if b then [] else ys)) ++ more)
 grown_by true r ys zs g = ([], refl)
 grown_by false r ys zs g = (g.0, ap (λ l. r ∷ l) g.1)
@@ -84,17 +78,34 @@ grown_with : (o : Message) (a : Option (List ℕ)) (ys zs : List (List ℕ)) →
 grown_with o None ys zs g = g
 grown_with o (Some r) ys zs g = grown_by (is_final_for o r) r ys zs g
 
-grown : (o : Message) (id : ℕ) (L M : List Entry) → Grown o id L M
-unfolding Grown
+grown : (o : Message) (id : ℕ) (L M : List Entry) → (more : List (List ℕ)) × (answers_under o id (L ++ M) ≡ answers_under o id L ++ more)
 grown o id [] M = (answers_under o id M, refl)
 grown o id (e ∷ L) M = grown_with o (answer_of o id e) (answers_under o id L) (answers_under o id (L ++ M)) (grown o id L M)
 
-allowed_by : (o : Message) (kind : Option OpKind) (id : ℕ) (L M : List Entry) (outs : List (List ℕ)) → Grown o id L M → allowed kind (answers_under o id L) outs ≡ true → allowed kind (answers_under o id (L ++ M)) outs ≡ true
-unfolding Grown
-allowed_by o kind id L M outs g h = subst (λ ys. allowed kind ys outs ≡ true) (sym g.1) (allowed_grows kind (answers_under o id L) outs g.0 h)
+-- the reign of a longer list is that of the list, and more
+reign_grows : (id : ℕ) (L M : List Entry) → (more : List Entry) × (reign_of id (L ++ M) ≡ reign_of id L ++ more)
+reign_grows id [] M = (reign_of id M, refl)
+reign_grows id (e ∷ L) M = by (gives_id id e) (reign_grows id L M)
+  where
+    by : (b : Bool) → (more : List Entry) × (reign_of id (L ++ M) ≡ reign_of id L ++ more) → (more : List Entry) × (elim b [ true ↦ [] | false ↦ e ∷ reign_of id (L ++ M) ] ≡ (elim b [ true ↦ [] | false ↦ e ∷ reign_of id L ]) ++ more)
+    by true g = ([], refl)
+    by false g = (g.0, ap (λ l. e ∷ l) g.1)
+
+-- so are the answers in it
+Answered : Message → ℕ → List Entry → List Entry → Type 0
+Answered o id L M = (more : List (List ℕ)) × (answers_under o id (reign_of id (L ++ M)) ≡ answers_under o id (reign_of id L) ++ more)
+
+answered_by : (o : Message) (id : ℕ) (L M : List Entry) → (more : List Entry) × (reign_of id (L ++ M) ≡ reign_of id L ++ more) → Answered o id L M
+unfolding Answered
+answered_by o id L M g = subst (λ l. (more : List (List ℕ)) × (answers_under o id l ≡ answers_under o id (reign_of id L) ++ more)) (sym g.1) (grown o id (reign_of id L) g.0)
+
+allowed_by : (o : Message) (kind : List ℕ) (id : ℕ) (L M : List Entry) (outs : List (List ℕ)) → Answered o id L M → allowed kind (answers_under o id (reign_of id L)) outs ≡ true → allowed kind (answers_under o id (reign_of id (L ++ M))) outs ≡ true
+unfolding Answered
+allowed_by o kind id L M outs g h = subst (λ ys. allowed kind ys outs ≡ true) (sym g.1) (allowed_grows kind (answers_under o id (reign_of id L)) outs g.0 h)
 
 pub answers_may_grow : AnswersMayGrow
-answers_may_grow o kind id L M outs h = allowed_by o kind id L M outs (grown o id L M) h
+answers_may_grow o kind sent M outs h =
+    allowed_by o.request kind sent.id sent.behind M outs (answered_by o.request sent.id sent.behind M (reign_grows sent.id sent.behind M)) h
 
 -- an end stays
 end_or : (m : Option Manner) (x : Entry) (L M : List Entry) (later later' : Option Ending) (e : Ending) → (later ≡ Some e → later' ≡ Some (extended M e)) → ending_or m x L later ≡ Some e → ending_or m x (L ++ M) later' ≡ Some (extended M e)

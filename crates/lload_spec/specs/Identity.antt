@@ -2,7 +2,8 @@
 use Rattle.std.specs.Prelude.{ℕ, Bool, true, ◌==◌, ◌||◌, not, if◌then◌else◌, List, [], ◌++◌, length, Option, Some, None, IsTrue, unwrap_or, codes}
 use Rattle.std.specs.List.{list_all}
 use Rattle.std.specs.Str.{bytes_eq}
-use Rattle.ldap_spec.specs.Requests.{Request, BindRequest, Method, Simple, request}
+use Rattle.ldap_spec.specs.Tags.{success}
+use Rattle.ldap_spec.specs.Requests.{Request, BindRequest, Simple, request}
 use Rattle.ldap_spec.specs.Responses.{has_code, who_value}
 use Rattle.ldap_spec.specs.Controls.{Control, proxied_authorization, with_first}
 use Rattle.lload_names.specs.declared.names.Entry.{Entry}
@@ -17,26 +18,24 @@ use Rattle.lload_spec.specs.Answers.{Sending, all_sendings, closing}
 abbrev pub simple_identity : List ℕ → List ℕ → List ℕ
 simple_identity name password = if length name == 0 || length password == 0 then [] else codes "dn:" ++ name
 
--- the identity by another method: the answer to Who Am I with proxied authorization on, where there is one (RFC 4532)
-abbrev pub asked_identity : Settings → Option (List ℕ) → List ℕ
-asked_identity s None = []
-asked_identity s (Some answer) = if s.proxies_authorization then unwrap_or (who_value answer) [] else []
+-- the identity that a successful Bind request gives: by name and password, or by what Who Am I told of it, with proxied
+-- authorization on (RFC 4513, 5.1; RFC 4532)
+abbrev pub identity_of : Settings → Option (List ℕ) → Option Request → List ℕ
+identity_of s who (Some (BindRequest version name (Simple password))) = simple_identity name password
+identity_of s who _ = if s.proxies_authorization then unwrap_or who [] else []
 
--- the identity by a name and a method, with the answer that settled the Bind
-abbrev pub identity_by_method : Settings → Option (List ℕ) → List ℕ → Method → List ℕ
-identity_by_method s answer name (Simple password) = simple_identity name password
-identity_by_method s answer name _ = asked_identity s answer
-
--- the identity that a successful Bind request gives
-abbrev pub identity_by_request : Settings → Option (List ℕ) → Option Request → List ℕ
-identity_by_request s answer (Some (BindRequest version name method)) = identity_by_method s answer name method
-identity_by_request s answer _ = asked_identity s answer
+-- the identity that the answer which settles a Bind tells
+abbrev pub who_by : Option (List ℕ) → Option (List ℕ)
+who_by None = None
+who_by (Some answer) = who_value answer
 
 -- the identity that a Bind gives its client: none before a final Out of success stands under it
 abbrev pub identity_by : Settings → Family → Operation → List ℕ
-identity_by s F b = if got_final (has_code 0) b then identity_by_request s (closing s F b) (request b.request.rest) else []
+identity_by s F b =
+    if got_final (has_code success) b then identity_of s (who_by (closing s F b)) (request b.request.rest) else []
 
--- the identity of a client at a place of its list: what its last Bind before the place gave there, none where there is none
+-- the identity of a client at a place of its list: what its last Bind before the place gave there, none where there is
+-- none
 abbrev pub identity : Settings → Family → ℕ → List Entry → List ℕ
 identity s F c place = elim (last_bind c place) [ None ↦ [] | Some b ↦ identity_by s F b ]
 
@@ -44,9 +43,11 @@ identity s F c place = elim (last_bind c place) [ None ↦ [] | Some b ↦ ident
 abbrev pub identity_control : List ℕ → Control
 identity_control who = record { oid = proxied_authorization; critical = true; value = Some who }
 
--- what goes upstream: the rest itself without proxied authorization and for the privileged identity, else with the identity first in its control list
+-- what goes upstream: the rest itself without proxied authorization and for the privileged identity, else with the
+-- identity first in its control list
 abbrev pub proxied : Settings → List ℕ → List ℕ → List ℕ
-proxied s rest who = if not s.proxies_authorization || is_privileged s who then rest else with_first (identity_control who) rest
+proxied s rest who =
+    if not s.proxies_authorization || is_privileged s who then rest else with_first (identity_control who) rest
 
 -- what an operation should carry: a Bind goes as it came, another with its client's identity at its In
 abbrev pub carried : Settings → Family → Operation → List ℕ

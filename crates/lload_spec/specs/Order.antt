@@ -1,5 +1,6 @@
--- The order in which the backends of a tier are tried, and the connections of a backend (tier in lloadd.conf(5)).
-use Rattle.std.specs.Prelude.{ℕ, suc, Bool, true, false, ◌==◌, ◌&&◌, if◌then◌else◌, List, [], ◌∷◌, ◌++◌, filter, max, fold, Option, Some, None, option_map}
+-- The facts that the desk's list tells of a choice: all but what is viable and pending is read behind the last entry
+-- that says the desk took another plan.
+use Rattle.std.specs.Prelude.{ℕ, Bool, true, false, ◌==◌, ◌&&◌, not, nat_lt, if◌then◌else◌, List, [], ◌∷◌, ◌++◌, filter, Option, Some, None, option_map}
 use Rattle.std.specs.List.{list_any}
 use Rattle.lload_names.specs.declared.names.Entry.{Entry}
 use Rattle.lload_names.specs.declared.names.ConnKind.{ConnKind}
@@ -9,15 +10,32 @@ use Rattle.lload_names.specs.declared.names.Want.{Want}
 use Rattle.lload_names.specs.declared.names.Bound.{Bound}
 use Rattle.lload_names.specs.declared.names.Bound.TheVariants.{Free}
 use Rattle.lload_names.specs.declared.names.Letter.{Letter}
-use Rattle.lload_names.specs.declared.names.Letter.TheVariants.{Ended}
-use Rattle.lload_names.specs.declared.plans.BackendPlan.{BackendPlan}
+use Rattle.lload_names.specs.declared.names.Letter.TheVariants.{Ended, IsUp}
 use Rattle.lload_names.specs.declared.plans.TierPlan.{TierPlan}
-use Rattle.lload_names.specs.Plans.{place_count}
 use Rattle.lload_spec.specs.Lists.{last}
-use Rattle.lload_spec.specs.Picks.{rising, in_turn, tier_order, mean_of_last}
+use Rattle.lload_spec.specs.News.{tells_over, tells_stopped, is_heard}
+use Rattle.lload_spec.specs.Picks.{mean_of_last}
+use Rattle.lload_spec.specs.Choice.{DeskFacts}
 use Rattle.lload_spec.specs.Journal.{same_op}
-use Rattle.lload_spec.specs.Entries.{Named, asked, chose, heard}
-use Rattle.lload_spec.specs.Settings.{Settings, place_index, is_of_kind, is_of_backend}
+use Rattle.lload_spec.specs.Entries.{Named, asked, chose, heard, replanned}
+use Rattle.lload_spec.specs.Settings.{Settings, place_index, is_of_kind, is_of_backend, plan_in_force}
+
+-- the number of the plan that these entries take last, or this one
+abbrev pub plan_behind : ℕ → List Entry → ℕ
+plan_behind k [] = k
+plan_behind k (e ∷ es) = plan_behind (elim (replanned e.what) [ None ↦ k | Some r ↦ r.number ]) es
+
+-- the number of the plan in force at a place of the desk's list: the first is in force at its beginning
+abbrev pub plan_number : List Entry → ℕ
+plan_number place = plan_behind 1 place
+
+-- the entries behind the last one that takes a plan, where these came before
+abbrev pub behind_plan : List Entry → List Entry → List Entry
+behind_plan before [] = before
+behind_plan before (e ∷ es) = behind_plan (elim (replanned e.what) [ None ↦ before ++ e ∷ [] | Some r ↦ [] ]) es
+
+abbrev pub since_plan : List Entry → List Entry
+since_plan place = behind_plan [] place
 
 -- the connection that an answer gives
 abbrev pub go_connection : Answer → List ℕ
@@ -59,33 +77,13 @@ has_backend t number = list_any (λ b. b.number == number) t.backends
 
 -- the backend of a tier that a free request got last
 abbrev pub last_free_go : List Entry → TierPlan → Option ℕ
-last_free_go place t = last (filter (has_backend t) (free_goes place))
-
--- the order in which the backends of a tier are tried, at a place of the desk's list and with a random word
-abbrev pub order : List Entry → TierPlan → ℕ → List BackendPlan
-order place t w = tier_order t.kind (λ b. b.number) (λ b. b.weight) (last_free_go place t) w t.backends
-
--- the indices of the places of a backend with a kind, in order; connection i + 1 is the first of place i
-abbrev pub places_for : Settings → ℕ → ConnKind → List ℕ
-places_for s backend kind = filter (λ i. is_of_kind s kind (suc i) && is_of_backend s backend (suc i)) (rising 0 (place_count s.tiers))
+last_free_go place t = last (filter (has_backend t) (free_goes (since_plan place)))
 
 -- the index of the place of the last connection of the backend and kind that was chosen
 abbrev pub last_go : Settings → List Entry → ℕ → ConnKind → Option ℕ
-last_go s place backend kind = option_map (place_index s) (last (filter (λ n. is_of_kind s kind n && is_of_backend s backend n) (goes place)))
-
--- the same from the successor of the place of the last connection of the backend and kind that was chosen, or from the first
-abbrev pub place_order : Settings → List Entry → ℕ → ConnKind → List ℕ
-place_order s place backend kind = in_turn (λ i. i) (last_go s place backend kind) (places_for s backend kind)
-
--- the greatest of these numbers
-abbrev pub greatest : List ℕ → Option ℕ
-greatest [] = None
-greatest (n ∷ ns) = Some (fold max n ns)
-
--- the connection that stands for the first of these places that has one
-abbrev pub first_at : Settings → List ℕ → List ℕ → Option ℕ
-first_at s among [] = None
-first_at s among (i ∷ is) = elim (greatest (filter (λ n. place_index s n == i) among)) [ Some n ↦ Some n | None ↦ first_at s among is ]
+last_go s place backend kind =
+    option_map (place_index s)
+    (last (filter (λ n. is_of_kind s kind n && is_of_backend s backend n) (goes (since_plan place))))
 
 -- the latency that a letter tells of a backend, if it does
 abbrev pub latency_told : Settings → ℕ → Letter → List ℕ
@@ -95,8 +93,51 @@ latency_told s backend _ = []
 -- the latencies of a backend that the desk heard, in order
 abbrev pub latencies : Settings → ℕ → List Entry → List ℕ
 latencies s backend [] = []
-latencies s backend (e ∷ es) = elim (heard e.what) [ None ↦ [] | Some l ↦ latency_told s backend l ] ++ latencies s backend es
+latencies s backend (e ∷ es) =
+    elim (heard e.what) [ None ↦ [] | Some l ↦ latency_told s backend l ] ++ latencies s backend es
 
 -- the mean of the last 16 latencies of a backend
 abbrev pub mean_latency : Settings → List Entry → ℕ → ℕ
-mean_latency s place backend = mean_of_last (latencies s backend place)
+mean_latency s place backend = mean_of_last (latencies s backend (since_plan place))
+
+-- the connection that a letter says is up
+abbrev pub up_told : Letter → List ℕ
+up_told (IsUp conn) = conn ∷ []
+up_told _ = []
+
+-- the connections that the desk heard are up
+abbrev pub ups_heard : List Entry → List ℕ
+ups_heard [] = []
+ups_heard (e ∷ es) = elim (heard e.what) [ None ↦ [] | Some l ↦ up_told l ] ++ ups_heard es
+
+-- whether a connection is above the base of the plan in force
+abbrev pub is_of_plan : Settings → List Entry → ℕ → Bool
+is_of_plan s place n = nat_lt (plan_in_force s (plan_number place)).base n
+
+-- the viable connections: heard to be up, and not to be retired or down, and above the base of the plan in force
+abbrev pub viable : Settings → List Entry → List ℕ
+viable s place = filter (λ n. is_of_plan s place n && not (is_heard (tells_stopped n) place)) (ups_heard place)
+
+-- the connection of a choice that none of these entries behind it says ended or was returned
+abbrev pub pending_choice : Option (Named Answer) → List Entry → List ℕ
+pending_choice None behind = []
+pending_choice (Some c) behind =
+    if is_heard (tells_over c.op) behind then [] else go_connection c.value
+
+-- the connections of the choices that are pending: of those whose operation wasn't heard behind them to have ended or
+-- to be returned
+abbrev pub pending : List Entry → List ℕ
+pending [] = []
+pending (e ∷ es) = pending_choice (chose e.what) es ++ pending es
+
+-- the facts at a place of the desk's list
+abbrev pub desk_facts : Settings → List Entry → DeskFacts
+desk_facts s place =
+    record {
+      tiers = (plan_in_force s (plan_number place)).plan;
+      viable = viable s place;
+      pending = pending place;
+      last_backend = last_free_go place;
+      last_place = last_go s place;
+      mean = mean_latency s place;
+    }

@@ -3,7 +3,7 @@
 use Rattle.std.specs.Prelude.{false, [], ◌∷◌, None, pos}
 use Rattle.lload_names.specs.declared.plans.BackendPlan.{BackendPlan}
 use Rattle.lload_names.specs.declared.plans.TierKind.TheVariants.{RoundRobin}
-use Rattle.lload_spec.specs.Settings.{Settings}
+use Rattle.lload_spec.specs.Settings.{Settings, usual_limit}
 
 -- the one backend
 abbrev pub plain_backend : BackendPlan
@@ -11,4 +11,17 @@ plain_backend = record { number = 1; weight = 1; numconns = 1; bindconns = 1; ma
 
 -- the settings
 abbrev pub plain : Settings
-plain = record { proxies_authorization = false; own_bind = None; timeout = 0; client_max_pending = 0; write_coherence = pos 0; exop_restrictions = []; control_restrictions = []; tiers = record { kind = RoundRobin; backends = plain_backend ∷ [] } ∷ []; id_limit = 1073741823; max_incoming_client = 262143; max_incoming_upstream = 4194303 }
+plain =
+    record {
+      proxies_authorization = false;
+      own_bind = None;
+      timeout = 0;
+      client_max_pending = 0;
+      write_coherence = pos 0;
+      exop_restrictions = [];
+      control_restrictions = [];
+      plans = record { plan = record { kind = RoundRobin; backends = plain_backend ∷ [] } ∷ []; base = 0 } ∷ [];
+      id_limit = usual_limit;
+      max_incoming_client = 262143;
+      max_incoming_upstream = 4194303;
+    }

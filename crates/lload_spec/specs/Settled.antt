@@ -1,26 +1,26 @@
 -- Nothing is left to be taken: what holds of a family where no letter waits and no part has a message to take.
-use Rattle.std.specs.Prelude.{ℕ, Bool, true, false, ◌==◌, ◌&&◌, ◌||◌, not, if◌then◌else◌, List, [], ◌∷◌, length, filter, Some, None, IsTrue, is_some}
+use Rattle.std.specs.Prelude.{ℕ, Bool, true, false, ◌==◌, ◌&&◌, ◌||◌, not, List, [], ◌∷◌, length, filter, IsTrue, is_some}
 use Rattle.std.specs.List.{list_any, list_all}
-use Rattle.ldap_spec.specs.Responses.{has_code}
 use Rattle.lload_names.specs.declared.names.Entry.{Entry}
 use Rattle.lload_names.specs.declared.names.OpName.{OpName}
 use Rattle.lload_names.specs.declared.names.OpKind.TheVariants.{Bind}
-use Rattle.lload_names.specs.declared.names.ConnKind.TheVariants.{Bind as BindKind}
+use Rattle.lload_names.specs.declared.names.ConnKind.TheVariants.{Regular}
 use Rattle.lload_names.specs.declared.names.Answer.{Answer}
 use Rattle.lload_names.specs.declared.names.Answer.TheVariants.{Go}
 use Rattle.lload_names.specs.declared.names.Refusal.{Refusal}
 use Rattle.lload_names.specs.declared.names.Refusal.TheVariants.{C4, C5, C9}
 use Rattle.lload_names.specs.declared.names.Letter.{Letter}
-use Rattle.lload_names.specs.declared.names.Letter.TheVariants.{Returned, Ended, IsUp, IsRetired, IsDown}
-use Rattle.lload_spec.specs.Lists.{passes, each_entry, implies, is_prefix}
+use Rattle.lload_spec.specs.Lists.{each_entry, implies, agrees, is_prefix, where_there}
 use Rattle.lload_spec.specs.Settings.{Settings, is_of_kind}
-use Rattle.lload_spec.specs.Journal.{Family, same_op}
-use Rattle.lload_spec.specs.Entries.{chosen, chose, heard, is_missed, is_up, is_retired, is_down}
+use Rattle.lload_spec.specs.Journal.{Family}
+use Rattle.lload_spec.specs.Entries.{chosen, chose, is_up, is_retired, is_down}
 use Rattle.lload_spec.specs.Operations.{Operation, all_operations, is_of, is_live_at, is_ended_by_client, is_final_for, outs}
-use Rattle.lload_spec.specs.Answers.{Sending, sendings, all_sendings, sendings_of, answers, final_answer, is_open}
-use Rattle.lload_spec.specs.Fifo.{refusals, is_refused_with}
-use Rattle.lload_spec.specs.OneEach.{of_operation}
-use Rattle.lload_spec.specs.CausedUp.{is_holding, holder}
+use Rattle.lload_spec.specs.Answers.{Sending, sendings, of_operation, all_sendings, sendings_of, answers, final_answer, is_open}
+use Rattle.lload_spec.specs.Fifo.{is_refused_with, is_told_own}
+use Rattle.lload_spec.specs.Pauses.{pausing_at, holds_at}
+use Rattle.lload_spec.specs.News.{tells_ended, tells_returned, tells_up, tells_retired, tells_down, is_heard}
+use Rattle.lload_spec.specs.Over.{is_over_at, from_sent}
+use Rattle.lload_spec.specs.CausedUp.{holder}
 
 -- whether two lists of texts are one
 abbrev pub are_same : List (List ℕ) → List (List ℕ) → Bool
@@ -30,13 +30,16 @@ are_same xs ys = is_prefix xs ys && is_prefix ys xs
 abbrev pub is_refused_by : Family → List Refusal → Operation → Bool
 is_refused_by F which o = list_any (λ r. is_refused_with F r o) which
 
--- each operation was Sent, is refused, or was ended by its client
+-- each operation was Sent, is answered by the proxy itself, or was ended by its client
 abbrev pub is_dealt_with : Family → Operation → Bool
-is_dealt_with F o = not (length (sendings_of F o.name) == 0) || is_refused_by F refusals o || is_ended_by_client o
+is_dealt_with F o = not (length (sendings_of F o.name) == 0) || is_told_own F o || is_ended_by_client o
 
 -- whether a Bind's success is still kept back: its client got all answers but the final one, and the Bind is open
 abbrev pub is_kept_back : Settings → Operation → Sending → Bool
-is_kept_back s o sent = is_of Bind o && is_open s o sent && are_same (outs o) (filter (λ r. not (is_final_for o.request r)) (answers o sent)) && is_some (final_answer o sent)
+is_kept_back s o sent =
+    is_of Bind o && is_open s o sent
+    && are_same (outs o) (filter (λ r. not (is_final_for o.request r)) (answers o sent))
+    && is_some (final_answer o sent)
 
 -- whether the client got all answers, and the final one is among them or the operation is still open
 abbrev pub is_told_answers : Settings → Operation → Sending → Bool
@@ -44,44 +47,20 @@ is_told_answers s o sent = are_same (outs o) (answers o sent) && (is_some (final
 
 -- where the client didn't end the operation, it got all answers, or a refusal for a loss, or a success is kept back
 abbrev pub is_told_all : Settings → Family → Operation → Sending → Bool
-is_told_all s F o sent = is_ended_by_client o || is_told_answers s o sent || is_refused_by F (C4 ∷ C5 ∷ C9 ∷ []) o || is_kept_back s o sent
+is_told_all s F o sent =
+    is_ended_by_client o || is_told_answers s o sent || is_refused_by F (C4 ∷ C5 ∷ C9 ∷ []) o || is_kept_back s o sent
 
--- where the client ended the operation, which isn't a Bind, it isn't open upstream: it was abandoned, settled, expired or lost
+-- where the client ended the operation, which isn't a Bind, it isn't open upstream: it was abandoned, settled, expired
+-- or lost
 abbrev pub is_told_upstream : Settings → Operation → Sending → Bool
 is_told_upstream s o sent = implies (is_ended_by_client o && not (is_of Bind o)) (not (is_open s o sent))
 
--- whether a letter says that this operation ended, or was returned
-abbrev pub tells_ended : OpName → Letter → Bool
-tells_ended op (Ended o u latency) = same_op op o
-tells_ended op _ = false
-
-abbrev pub tells_returned : OpName → Letter → Bool
-tells_returned op (Returned o u) = same_op op o
-tells_returned op _ = false
-
--- whether the desk heard that the operation ended
+-- whether the desk heard that the operation ended, and that it was returned
 abbrev pub is_end_heard : Family → OpName → Bool
-is_end_heard F op = list_any (λ e. passes (tells_ended op) (heard e.what)) F.desk
+is_end_heard F op = is_heard (tells_ended op) F.desk
 
--- whether the desk heard that the operation was returned
 abbrev pub is_return_heard : Family → OpName → Bool
-is_return_heard F op = list_any (λ e. passes (tells_returned op) (heard e.what)) F.desk
-
--- whether the holder of a bind connection since these Sent entries is still the one of the first: each but the last was answered with saslBindInProgress, and the last still holds
-abbrev pub is_held_since : Settings → Family → List Sending → Bool
-is_held_since s F [] = false
-is_held_since s F (q ∷ []) = of_operation F (is_holding s) q
-is_held_since s F (q ∷ r ∷ qs) = of_operation F (λ o x. passes (λ f. has_code 14 f.rest) (final_answer o x)) q && q.op.client == r.op.client && is_held_since s F (r ∷ qs)
-
--- the Sent entries from the first of this operation on
-abbrev pub from_sent : OpName → List Sending → List Sending
-from_sent op [] = []
-from_sent op (q ∷ qs) = elim (same_op op q.op) [ true ↦ q ∷ qs | false ↦ from_sent op qs ]
-
--- whether a chosen operation is over at its connection: it was missed there, or was Sent and is no longer open or no longer holds
-abbrev pub is_over_at : Settings → Family → OpName → ℕ → List Sending → Bool
-is_over_at s F op u [] = list_any (is_missed op) (F.connection u)
-is_over_at s F op u (q ∷ qs) = not (if is_of_kind s BindKind u then is_held_since s F (q ∷ qs) else of_operation F (is_open s) q)
+is_return_heard F op = is_heard (tells_returned op) F.desk
 
 -- whether an answer's connection has the operation over
 abbrev pub is_over_by : Settings → Family → OpName → Answer → Bool
@@ -90,7 +69,8 @@ is_over_by s F op _ = false
 
 -- each chosen operation that is over at its connection was heard to have ended
 abbrev pub is_chose_settled : Settings → Family → Entry → Bool
-is_chose_settled s F e = elim (chose e.what) [ None ↦ true | Some c ↦ implies (is_over_by s F c.op c.value) (is_end_heard F c.op) ]
+is_chose_settled s F e =
+    where_there (λ c. implies (is_over_by s F c.op c.value) (is_end_heard F c.op)) (chose e.what)
 
 -- whether an answer is a connection
 abbrev pub is_go : Answer → Bool
@@ -98,25 +78,16 @@ is_go (Go n b) = true
 is_go _ = false
 
 -- each choice that came too late was heard to be returned
-abbrev pub is_chosen_settled : Family → List Entry → Entry → Bool
-is_chosen_settled F place e = elim (chosen e.what) [ None ↦ true | Some c ↦ implies (is_go c.value && not (is_live_at place c.op)) (is_return_heard F c.op) ]
-
--- a letter of a connection's state
-abbrev pub tells_up : ℕ → Letter → Bool
-tells_up u (IsUp conn) = conn == u
-tells_up u _ = false
-
-abbrev pub tells_retired : ℕ → Letter → Bool
-tells_retired u (IsRetired conn) = conn == u
-tells_retired u _ = false
-
-abbrev pub tells_down : ℕ → Letter → Bool
-tells_down u (IsDown conn) = conn == u
-tells_down u _ = false
+abbrev pub is_chosen_settled : Family → ℕ → List Entry → Entry → Bool
+is_chosen_settled F client place e =
+    where_there
+    (λ c.
+    implies (is_go c.value && not (is_live_at client place c.op)) (is_return_heard F c.op))
+    (chosen e.what)
 
 -- where such an entry stands in a connection's list, the desk heard such a letter
 abbrev pub is_state_heard : Family → ℕ → (Entry → Bool) → (ℕ → Letter → Bool) → Bool
-is_state_heard F u is_it tells = implies (list_any is_it (F.connection u)) (list_any (λ e. passes (tells u) (heard e.what)) F.desk)
+is_state_heard F u is_it tells = implies (list_any is_it (F.connection u)) (is_heard (tells u) F.desk)
 
 -- a retired connection that isn't down has an operation open or a holder
 abbrev pub is_retired_in_use : Settings → Family → ℕ → Bool
@@ -129,6 +100,16 @@ abbrev pub is_connection_settled : Settings → Family → ℕ → Bool
 is_connection_settled s F u =
     is_state_heard F u (λ e. is_up e.what) tells_up && is_state_heard F u (λ e. is_retired e.what) tells_retired
     && is_state_heard F u is_down tells_down && is_retired_in_use s F u
+
+-- whether a client that is stalled and not gone has paused this connection
+abbrev pub is_paused_by : Family → ℕ → ℕ → Bool
+is_paused_by F u c = (pausing_at c (F.client c)).stalled && list_any (λ n. n == u) (pausing_at c (F.client c)).paused
+
+-- a regular connection that isn't down holds exactly where such a client has paused it
+abbrev pub is_pause_settled : Settings → Family → ℕ → Bool
+is_pause_settled s F u =
+    implies (is_of_kind s Regular u && not (list_any is_down (F.connection u)))
+    (agrees (holds_at s u (F.connection u)) (list_any (is_paused_by F u) F.clients))
 
 -- each operation is dealt with
 abbrev pub each_dealt_with : Family → Bool
@@ -152,7 +133,17 @@ each_end_heard s F = list_all (is_chose_settled s F) F.desk
 
 -- the desk heard of each choice that came too late
 abbrev pub each_return_heard : Family → Bool
-each_return_heard F = list_all (λ c. each_entry (is_chosen_settled F) (F.client c)) F.clients
+each_return_heard F = list_all (λ c. each_entry (is_chosen_settled F c) (F.client c)) F.clients
+
+-- each connection holds for those that have paused it
+abbrev pub each_pause_settled : Settings → Family → Bool
+each_pause_settled s F = list_all (is_pause_settled s F) F.connections
+
+-- whether nothing is left to be taken
+abbrev pub is_settled : Settings → Family → Bool
+is_settled s F =
+    each_dealt_with F && each_told_all s F && each_told_upstream s F && each_state_heard s F && each_end_heard s F
+    && each_return_heard F && each_pause_settled s F
 
 -- nothing is left to be taken
 pub record Settled (s : Settings) (F : Family) : Type 0 where
@@ -162,3 +153,4 @@ pub record Settled (s : Settings) (F : Family) : Type 0 where
   pub states_heard : IsTrue (each_state_heard s F)
   pub ends_heard : IsTrue (each_end_heard s F)
   pub returns_heard : IsTrue (each_return_heard F)
+  pub pauses_settled : IsTrue (each_pause_settled s F)

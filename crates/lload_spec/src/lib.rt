@@ -6,15 +6,13 @@
 //! contracts with them. The functions here have empty bodies: their contracts are laws of the definitions.
 #![tactic(auto)]
 
-ghost use Rattle.lload_spec.specs.Follows.{Follows};
-ghost use Rattle.lload_spec.specs.Given.{given};
-ghost use Rattle.lload_spec.specs.Good.{Good};
-ghost use Rattle.lload_spec.specs.Laws.{AnswersMayGrow, EndStays, LooksBack};
-ghost use Rattle.lload_spec.specs.Linked.{Linked};
+ghost use Rattle.lload_spec.specs.Good.{Good, Promised};
+ghost use Rattle.lload_spec.specs.Laws.{AnswersMayGrow, EndStays, FamilyIsWhole, LaterPlansMoveNone, LooksBack, NoneBroken};
 ghost use Rattle.lload_spec.specs.PickLaws.{EqualMeansPickFirst, OrderPermutes, WeightedPermutes};
 ghost use Rattle.lload_spec.specs.Plain.{plain};
 ghost use Rattle.lload_spec.specs.Settled.{Settled};
 ghost use Rattle.lload_spec.specs.Strict.{Strict};
+ghost use Rattle.lload_spec.specs.Tested.{CausedTested, FifoTested, GoodTested, OneEachTested, SettledTested, StrictTested};
 ghost use Rattle.lload_spec.specs.TextLaws.{TextsFollow};
 ghost use Rattle.lload_spec.specs.Verdict.{first_broken};
 ghost use Rattle.lload_spec.specs.WellFormed.{WellFormed};
@@ -48,4 +46,29 @@ pub fn each_backend_is_tried_once()
 /// With equal mean latencies bestof picks the backend that weighted picks.
 pub fn equal_means_pick_as_weighted()
     ensures { EqualMeansPickFirst }
+{}
+
+/// A plan that is added to those of a run moves no connection whose number isn't above its base.
+pub fn later_plans_move_no_connection()
+    ensures { LaterPlansMoveNone }
+{}
+
+/// Each promise holds exactly where its computed test passes.
+pub fn promises_are_tested()
+    ensures fifo { FifoTested }
+    ensures one_each { OneEachTested }
+    ensures caused { CausedTested }
+    ensures good { GoodTested }
+    ensures strict { StrictTested }
+    ensures settled { SettledTested }
+{}
+
+/// No promise is broken exactly where the six promises are kept.
+pub fn none_is_broken_where_all_are_kept()
+    ensures { NoneBroken }
+{}
+
+/// The family of a journal names each part that has entries.
+pub fn the_family_of_a_journal_is_whole()
+    ensures { FamilyIsWhole }
 {}

@@ -5,10 +5,10 @@ use Rattle.std.proofs.lemmas.List.{append-nil, length-append, take-append-drop}
 use Rattle.lload_names.specs.declared.command.Command.{Command}
 use Rattle.lload_outside.specs.Causes.{Rose}
 use Rattle.lload_outside.specs.Told.{Told}
-use Rattle.lload_spec.specs.History.{Line, commands}
-use Rattle.lload_spec.specs.Plain.{plain}
+use Rattle.small_spec.specs.History.{Line, commands}
+use Rattle.small_spec.specs.Plain.{plain}
 use Rattle.lload_spec.specs.Script.{command_of}
-use Rattle.lload_spec.specs.Standing.{stands}
+use Rattle.small_spec.specs.Standing.{stands}
 use Rattle.lloadd_run.specs.declared.status.Status.{Status}
 use Rattle.lloadd_run.specs.declared.status.Status.TheVariants.{Done, Usage, ConfRefused, ScriptRefused, ReadFault, WriteFault, NoMemory, TooLong, ListenFault}
 use Rattle.lloadd_run.specs.Outcomes.{Ends, CanBeReplayed, EachStands, RefusedAt, ReplayedWithin, IsWrong}

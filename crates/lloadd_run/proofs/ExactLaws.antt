@@ -6,11 +6,11 @@ use Rattle.std.proofs.lemmas.List.{append-nil, length-append, take-append-drop, 
 use Rattle.lload_names.specs.declared.command.Command.{Command}
 use Rattle.lload_outside.specs.Causes.{Rose}
 use Rattle.lload_outside.specs.Told.{Told}
-use Rattle.lload_spec.specs.History.{Line, commands, journal, EachFrom}
-use Rattle.lload_spec.specs.Follows.{Obeys, Follows}
-use Rattle.lload_spec.specs.Plain.{plain}
+use Rattle.small_spec.specs.History.{Line, commands, journal, EachFrom}
+use Rattle.small_spec.specs.Follows.{Obeys, Follows}
+use Rattle.small_spec.specs.Plain.{plain}
 use Rattle.lload_spec.specs.Script.{command_of}
-use Rattle.script_play.specs.Plays.{HasKept, Promised}
+use Rattle.small_play.specs.Plays.{HasKept, Promised}
 use Rattle.lloadd_run.specs.declared.status.Status.{Status}
 use Rattle.lloadd_run.specs.declared.status.Status.TheVariants.{Done, Usage, ConfRefused, ScriptRefused, ReadFault, WriteFault, NoMemory, TooLong, ListenFault}
 use Rattle.lloadd_run.specs.Outcomes.{Ends, ReplayedAll, ReplayedWithin, RefusedAt, IsTooLong, IsWrongAt, IsWrongBehind, IsWrong}

@@ -3,7 +3,7 @@ use Rattle.std.proofs.Common.{◌≡◌, ℕ, suc, List, [], ◌∷◌, ◌++◌
 use Rattle.std.specs.Prelude.{Option, Some, None}
 use Rattle.std.proofs.lemmas.List.{append-nil}
 use Rattle.lload_names.specs.declared.command.Command.{Command}
-use Rattle.lload_spec.specs.History.{Line, commands, journal}
+use Rattle.small_spec.specs.History.{Line, commands, journal}
 use Rattle.lload_spec.specs.Script.{command_of}
 use Rattle.lload_spec.specs.Transcript.{journal_text}
 use Rattle.lload_spec.proofs.Texts.{journal_text-append}

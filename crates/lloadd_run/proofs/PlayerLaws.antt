@@ -2,11 +2,11 @@
 use Rattle.std.proofs.Common.{◌≡◌, ℕ, ◌+◌, List, [], ◌∷◌, ◌++◌, length, append_assoc, sym, ap, ◌∙◌, subst, inl, inr}
 use Rattle.std.specs.Prelude.{◌==◌, true, false, Option, Some, ◌⊎◌, Result, Ok, Err}
 use Rattle.std.proofs.lemmas.List.{append-nil, length-append}
-use Rattle.lload_spec.specs.History.{Line, commands, journal}
+use Rattle.small_spec.specs.History.{Line, commands, journal}
 use Rattle.lload_spec.specs.Script.{command_of}
 use Rattle.lload_spec.specs.Transcript.{journal_text}
-use Rattle.script_play.specs.PlayState.{PlayState}
-use Rattle.script_play.specs.Plays.{Plays}
+use Rattle.small_play.specs.PlayState.{PlayState}
+use Rattle.small_play.specs.Plays.{Plays}
 use Rattle.lloadd_run.specs.declared.player.Halt.{Halt}
 use Rattle.lloadd_run.specs.declared.player.Halt.TheVariants.{Refused, WriteFault, NoMemory}
 use Rattle.lloadd_run.specs.declared.player.Player.{Player}

@@ -5,9 +5,9 @@ use Rattle.std.proofs.Math.Seq.{take-append_seam, drop-append_seam, take-append-
 use Rattle.std.proofs.lemmas.List.{append-nil, length-append, length-take-le}
 use Rattle.lload_outside.specs.Causes.{Rose}
 use Rattle.lload_outside.specs.Told.{Moved, Told}
-use Rattle.lload_spec.specs.History.{Line, commands, journal}
+use Rattle.small_spec.specs.History.{Line, commands, journal}
 use Rattle.lload_spec.specs.Transcript.{journal_text, transcript}
-use Rattle.script_play.specs.Plays.{HasKept, Promised}
+use Rattle.small_play.specs.Plays.{HasKept, Promised}
 use Rattle.lloadd_run.specs.declared.player.Halt.{Halt}
 use Rattle.lloadd_run.specs.declared.player.Halt.TheVariants.{Refused, WriteFault, NoMemory}
 use Rattle.lloadd_run.specs.declared.player.Player.{Player}

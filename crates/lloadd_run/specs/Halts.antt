@@ -2,8 +2,8 @@
 use Rattle.std.specs.Prelude.{ℕ, Result, Ok, Err}
 use Rattle.replay_script.specs.declared.read.LineFault.{LineFault}
 use Rattle.replay_script.specs.declared.read.LineFault.TheVariants.{NotACommand, NoMemory as NoRoomForLine}
-use Rattle.script_play.specs.declared.play.Unplayed.{Unplayed}
-use Rattle.script_play.specs.declared.play.Unplayed.TheVariants.{DoesNotStand, NoMemory as NoRoomForPlay}
+use Rattle.small_play.specs.declared.play.Unplayed.{Unplayed}
+use Rattle.small_play.specs.declared.play.Unplayed.TheVariants.{DoesNotStand, NoMemory as NoRoomForPlay}
 use Rattle.lloadd_run.specs.declared.player.Halt.{Halt}
 use Rattle.lloadd_run.specs.declared.player.Halt.TheVariants.{Refused, WriteFault, NoMemory}
 use Rattle.lloadd_run.specs.declared.status.Status.{Status}

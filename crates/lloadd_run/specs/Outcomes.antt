@@ -4,13 +4,13 @@ use Rattle.std.specs.Prelude.{◌≡◌, ◌≢◌, ℕ, suc, ◌≤◌, ◌<◌
 use Rattle.lload_names.specs.declared.command.Command.{Command}
 use Rattle.lload_outside.specs.Causes.{Rose}
 use Rattle.lload_outside.specs.Told.{Told}
-use Rattle.lload_spec.specs.Follows.{Follows}
-use Rattle.lload_spec.specs.History.{Line, commands, journal}
-use Rattle.lload_spec.specs.Plain.{plain}
+use Rattle.small_spec.specs.Follows.{Follows}
+use Rattle.small_spec.specs.History.{Line, commands, journal}
+use Rattle.small_spec.specs.Plain.{plain}
 use Rattle.lload_spec.specs.Script.{command_of}
-use Rattle.lload_spec.specs.Standing.{stands}
+use Rattle.small_spec.specs.Standing.{stands}
 use Rattle.lload_spec.specs.Transcript.{journal_text, transcript}
-use Rattle.script_play.specs.Plays.{HasKept}
+use Rattle.small_play.specs.Plays.{HasKept}
 use Rattle.lloadd_run.specs.declared.status.Status.{Status}
 use Rattle.lloadd_run.specs.declared.status.Status.TheVariants.{Done, Usage, ConfRefused, ScriptRefused, ReadFault, WriteFault, NoMemory, TooLong, ListenFault}
 use Rattle.lloadd_run.specs.Amounts.{Took, WroteAll, WrotePart}

@@ -3,11 +3,11 @@ use Rattle.std.specs.Prelude.{◌≡◌, ◌≢◌, ℕ, ◌+◌, true, List, []
 use Rattle.std.specs.Fmt.{decimal}
 use Rattle.lload_names.specs.declared.names.Entry.{Entry}
 use Rattle.lload_names.specs.declared.command.Command.{Command}
-use Rattle.lload_spec.specs.History.{Line, commands, journal}
+use Rattle.small_spec.specs.History.{Line, commands, journal}
 use Rattle.lload_spec.specs.Script.{command_of}
 use Rattle.lload_spec.specs.Transcript.{journal_text}
-use Rattle.script_play.specs.PlayState.{PlayState}
-use Rattle.script_play.specs.Plays.{Plays}
+use Rattle.small_play.specs.PlayState.{PlayState}
+use Rattle.small_play.specs.Plays.{Plays}
 use Rattle.lloadd_run.specs.declared.player.Halt.{Halt}
 use Rattle.lloadd_run.specs.declared.player.Halt.TheVariants.{Refused, WriteFault, NoMemory}
 use Rattle.lloadd_run.specs.declared.player.Player.{Player}

@@ -3,12 +3,12 @@
 use Rattle.std.specs.Prelude.{◌≡◌, ℕ, ◌==◌, Bool, true, not, if◌then◌else◌, List, [], ◌∷◌, Option, Some, None}
 use Rattle.std.specs.List.{list_any}
 use Rattle.lload_names.specs.declared.command.Command.{Command}
-use Rattle.lload_spec.specs.Follows.{Follows}
-use Rattle.lload_spec.specs.History.{Line, commands}
-use Rattle.lload_spec.specs.Plain.{plain}
+use Rattle.small_spec.specs.Follows.{Follows}
+use Rattle.small_spec.specs.History.{Line, commands}
+use Rattle.small_spec.specs.Plain.{plain}
 use Rattle.lload_spec.specs.Script.{command_of}
-use Rattle.lload_spec.specs.Standing.{stands}
-use Rattle.script_play.specs.Plays.{HasKept}
+use Rattle.small_spec.specs.Standing.{stands}
+use Rattle.small_play.specs.Plays.{HasKept}
 
 -- these lines with a byte in front of the first; without a line the byte is in none
 abbrev pub onto_line : ℕ → List (List ℕ) → List (List ℕ)

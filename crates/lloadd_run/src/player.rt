@@ -1,10 +1,10 @@
 ghost use Rattle.std.specs.Prelude.{◌≡◌, ◌≢◌, ◌≤◌, ◌<◌, ◌+◌, ◌-◌, ◌^◌, ◌++◌, ◌∷◌, [], List, ℕ, Option, Some, None, true, length, string_bytes, IfOk};
 ghost use Rattle.lload_names.specs.declared.command.Command.{Command};
 ghost use Rattle.lload_outside.specs.Causes.{Rose};
-ghost use Rattle.lload_spec.specs.History.{Line};
+ghost use Rattle.small_spec.specs.History.{Line};
 ghost use Rattle.lload_spec.specs.Script.{command_of};
 ghost use Rattle.lload_spec.specs.Writable.{each_can_be_written};
-ghost use Rattle.script_play.specs.Plays.{Plays};
+ghost use Rattle.small_play.specs.Plays.{Plays};
 ghost use Rattle.lloadd_run.specs.Playing.{EndsLine, last_line_text, Finishes, GrowsBy, Stood, Takes};
 ghost use Rattle.lloadd_run.specs.Scripts.{refuses};
 ghost use Rattle.lloadd_run.specs.Halts.{of_line, of_play, of_writing};
@@ -14,7 +14,7 @@ use crate::writing::{Unwritten, write_all, write_entries};
 use lload_names::{Entries, NoMemory};
 use lload_outside::Sink;
 use replay_script::{LineFault, read_line};
-use script_play::{Play, Unplayed};
+use small_play::{Play, Unplayed};
 use std::alloc::Global;
 
 /// The octet that ends a line: LF.

@@ -1,1 +1,4 @@
-mod Folds
+pub mod Folds
+mod Joins
+mod Fits
+mod Tested

@@ -1,7 +1,7 @@
 -- Rules that regular connections and bind connections share.
-use Rattle.std.specs.Prelude.{ℕ, ◌-◌, ◌^◌, Bool, true, false, ◌==◌, ◌&&◌, not, nat_lt, min, List, [], ◌∷◌, ◌++◌, length, flat_map, Option, Some, None, is_none}
+use Rattle.std.specs.Prelude.{ℕ, Bool, true, false, ◌==◌, ◌&&◌, not, List, [], ◌∷◌, ◌++◌, length, flat_map, Option, Some, None, is_none}
 use Rattle.ldap_spec.specs.Messages.{Message}
-use Rattle.ldap_spec.specs.Kinds.{is_response, tag_of}
+use Rattle.lload_spec.specs.BadMessages.{is_bad}
 use Rattle.lload_names.specs.declared.names.OpName.{OpName}
 use Rattle.lload_names.specs.declared.names.EndWhy.{EndWhy}
 use Rattle.lload_names.specs.declared.names.EndWhy.TheVariants.{Bad, Drained}
@@ -12,11 +12,12 @@ use Rattle.lload_names.specs.declared.names.Letter.TheVariants.{Ended, IsUp, IsR
 use Rattle.lload_names.specs.declared.names.What.{What}
 use Rattle.lload_names.specs.declared.names.What.TheVariants as what
 use Rattle.lload_spec.specs.Settings.{Settings}
-use Rattle.lload_spec.specs.Given.{to, failed}
 use Rattle.lload_spec.specs.CausedUp.{is_past}
-use Rattle.lload_spec.specs.Linked.{Taken}
-use Rattle.part_spec.specs.Inputs.{Act, act, nothing, also, entries_of, marked_by}
-use Rattle.part_spec.specs.ConnectionState.{ConnectionState, UpRow, is_bind, step_connections}
+use Rattle.lload_spec.specs.Owed.{latency_between}
+use Rattle.part_spec.specs.Marked.{Taken}
+pub use Rattle.part_spec.specs.Inputs.{where_so}
+use Rattle.part_spec.specs.Inputs.{Act, act, also, entries_of, marked_by, to, failed}
+use Rattle.part_spec.specs.ConnectionState.{ConnectionState, UpRow, is_bind, message_facts, step_connections}
 
 -- the end of a chosen operation, as the desk hears it
 abbrev pub ended : ConnectionState → OpName → Option ℕ → List Posted
@@ -32,7 +33,7 @@ holder_ended p = elim p.holder [ None ↦ [] | Some h ↦ ended p h None ]
 
 -- the moment less that of the Sent, as far as 32 bits hold it
 abbrev pub latency : ℕ → UpRow → Option ℕ
-latency at r = Some (min (at - r.sent) (2 ^ 32 - 1))
+latency at r = Some (latency_between r.sent at)
 
 -- whether a row's operation is due at a moment (bindconf timeout in lloadd.conf(5))
 abbrev pub is_due : Settings → ℕ → UpRow → Bool
@@ -62,13 +63,9 @@ goes_down p why = act (what.Down why ∷ []) (down_letters p)
 abbrev pub comes_up : ConnectionState → Act
 comes_up p = act (what.Up ∷ []) (to Desk (IsUp p.number))
 
--- an extended response with identifier 0 has no effect (RFC 4511, 4.4; this project's own)
-abbrev pub is_ignored : Message → Bool
-is_ignored m = m.id == 0 && tag_of m.rest == 0x78
-
--- a message under no identifier in use: a response under one that was given has no effect, another takes the connection down
-abbrev pub stray : ConnectionState → Message → Act
-stray p m = elim (nat_lt 0 m.id && nat_lt m.id p.next && is_response m.rest) [ true ↦ nothing | false ↦ goes_down p Bad ]
+-- a message that takes the connection down, or what another one gives
+abbrev pub takes_down : ConnectionState → Message → Act → Act
+takes_down p m a = elim (is_bad (message_facts p) m) [ true ↦ goes_down p Bad | false ↦ a ]
 
 -- the state behind what a turn made so far
 abbrev pub behind_act : Settings → ℕ → Option Taken → ConnectionState → Act → ConnectionState
@@ -80,9 +77,8 @@ is_drained p = p.retired && not p.down && length p.rows == 0 && is_none p.holder
 
 -- where a rule leaves a retired connection with nothing to do, it goes down
 abbrev pub with_drained : Settings → ℕ → Option Taken → ConnectionState → Act → Act
-with_drained s at mark p a = elim (is_drained (behind_act s at mark p a)) [ true ↦ also a (act (what.Down Drained ∷ []) (to Desk (IsDown p.number))) | false ↦ a ]
-
--- where it holds that the connection has such a rule
-abbrev pub where_so : Bool → Act → Act
-where_so true a = a
-where_so false a = nothing
+with_drained s at mark p a =
+    elim (is_drained (behind_act s at mark p a)) [
+      | true ↦ also a (act (what.Down Drained ∷ []) (to Desk (IsDown p.number)))
+      | false ↦ a
+    ]

@@ -1,3 +1,4 @@
+pub mod Marked
 pub mod Inputs
 pub mod ClientState
 pub mod ClientTurn
@@ -8,7 +9,15 @@ pub mod BindTurn
 pub mod DeskState
 pub mod DeskTurn
 pub mod Turn
+pub mod Gives
+pub mod Marks
+pub mod Linked
 pub mod Fit
 pub mod Share
+pub mod Says
 pub mod Stamps
+pub mod World
+pub mod Runs
+pub mod Play
+pub mod Merge
 pub mod Laws

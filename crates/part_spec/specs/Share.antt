@@ -1,51 +1,55 @@
--- One part's share of the promises: all of them that is said of the one list with what its letters carry, up to the first
--- letter that isn't fit. What a promise says of another part's list is said here of the letters that were taken.
-use Rattle.std.specs.Prelude.{ℕ, Bool, true, false, ◌==◌, ◌&&◌, ◌||◌, not, nat_le, if◌then◌else◌, List, [], ◌∷◌, ◌++◌, length, take, find, map, Option, Some, None, IsTrue, is_some, is_none}
+-- One part's share of the promises: all of them that is said of the one list with what its letters carry, up to the
+-- first letter that isn't fit. What a promise says of another part's list is said here of the letters that were taken.
+use Rattle.std.specs.Prelude.{ℕ, Bool, true, false, ◌==◌, ◌&&◌, ◌||◌, not, if◌then◌else◌, List, [], ◌∷◌, ◌++◌, length, take, Option, Some, None, IsTrue, is_some, is_none}
 use Rattle.std.specs.List.{list_any, list_all}
-use Rattle.std.specs.Str.{bytes_eq}
 use Rattle.ldap_spec.specs.Messages.{Message}
-use Rattle.ldap_spec.specs.Kinds.{kind_of, fits, is_final, is_response, tag_of}
-use Rattle.ldap_spec.specs.Responses.{has_code, result_code, is_readable_who}
-use Rattle.ldap_spec.specs.Bodies.{refusal, abandon, who_am_i}
+use Rattle.ldap_spec.specs.Kinds.{is_final}
+use Rattle.ldap_spec.specs.Responses.{has_code, is_readable_who}
+use Rattle.ldap_spec.specs.Bodies.{abandon, who_am_i}
 use Rattle.lload_names.specs.declared.names.Entry.{Entry}
 use Rattle.lload_names.specs.declared.names.OpName.{OpName}
 use Rattle.lload_names.specs.declared.names.Answer.TheVariants.{Busy, Unavailable}
 use Rattle.lload_names.specs.declared.names.EndWhy.{EndWhy}
 use Rattle.lload_names.specs.declared.names.EndWhy.TheVariants.{Left, Bad, ZeroId, IdInUse, Unreadable, OwnBind, TimedOut, Unfinished, Drained}
 use Rattle.lload_names.specs.declared.names.Refusal.{Refusal}
-use Rattle.lload_names.specs.declared.names.Refusal.TheVariants.{C1, C2, C3, C4, C5, C6, C7, C8, C9, C10, C11, C12}
+use Rattle.lload_names.specs.declared.names.Refusal.TheVariants.{C1, C3, C4, C5, C9}
+use Rattle.lload_names.specs.declared.names.CancelAnswer.{CancelAnswer}
+use Rattle.lload_names.specs.declared.names.CancelAnswer.TheVariants.{C13}
+use Rattle.lload_names.specs.declared.names.ConnKind.TheVariants.{Regular}
 use Rattle.lload_names.specs.declared.names.PartName.{PartName}
 use Rattle.lload_names.specs.declared.names.PartName.TheVariants.{Desk, Client, Up as Connection}
 use Rattle.lload_names.specs.declared.names.Letter.{Letter}
 use Rattle.lload_names.specs.declared.names.Letter.TheVariants.{Forward, Reply, Failed, Drop, Leave}
-use Rattle.lload_spec.specs.Lists.{passes, first_passes, last_passes, each_entry, each_split, some_split, is_prefix, implies}
-use Rattle.lload_spec.specs.Settings.{Settings}
+use Rattle.lload_spec.specs.Lists.{passes, first_passes, last_passes, each_entry, each_split, some_split, implies}
+use Rattle.lload_spec.specs.Settings.{Settings, is_kind}
 use Rattle.lload_spec.specs.Journal.{family, same_op}
-use Rattle.lload_spec.specs.Entries.{in_message, sent_message, own_message, got_message, chosen, asked, heard, expired_op, idle_op, gone_why, down_why, is_up, is_retired, is_down_by, is_link_reason, is_notice, is_own, is_expired, same_why}
+use Rattle.lload_spec.specs.Entries.{in_message, sent_message, own_message, got_message, chosen, asked, heard, expired_op, idle_op, gone_why, down_why, is_up, is_retired, is_down_by, is_link_reason, is_notice, is_own, is_expired, same_why, is_of_desk}
 use Rattle.lload_spec.specs.Operations.{Operation, operations, operation_in, is_final_for, outs}
 use Rattle.lload_spec.specs.Answers.{sendings, asks_who}
-use Rattle.lload_spec.specs.Fifo.{allowed, is_ended_once, has_own_outs}
+use Rattle.lload_spec.specs.Fifo.{refusals, cancel_answers, allowed, is_refused_by_outs, is_canceled_by_outs, is_ended_once, has_own_outs}
 use Rattle.lload_spec.specs.Right.{each_chosen_rightly}
-use Rattle.lload_spec.specs.Identifiers.{has_next_id}
+use Rattle.lload_spec.specs.Identifiers.{has_right_id}
 use Rattle.lload_spec.specs.OneEach.{is_bind_due, is_own_bind, is_named_once}
 use Rattle.lload_spec.specs.FirstCheck.{Check, Ends}
-use Rattle.lload_spec.specs.Caused.{is_refusal_of, is_followed_up, refuses_with, refusal_number, is_choice_told, is_refused_by_choice, is_unbound, is_late_caused, is_later}
+use Rattle.lload_spec.specs.Caused.{is_followed_up, refuses_with, answers_with, is_checked_so, is_canceled_by, same_refusal, is_choice_told, is_refused_by_choice, is_unbound, is_late_caused, is_stall_caused, is_later}
 use Rattle.lload_spec.specs.CausedUp.{is_missed_caused, exactly_behind, is_up_due, is_retirement_due, is_refused_own_bind, is_own_bind_due}
-use Rattle.lload_spec.specs.Strict.{is_choice_for, is_asked_for, is_in_unheld, is_notice_placed, is_of_desk, same_news, lives_as_client, lives_as_connection}
-use Rattle.lload_spec.specs.Linked.{Marked, Taken, is_fitting}
-use Rattle.part_spec.specs.ClientState.{ClientState, empty_client, step_client, client_of, check}
-use Rattle.part_spec.specs.ConnectionState.{ConnectionState, UpRow, empty_connection, step_connection, is_bind_row, is_under, is_under_who, is_under_own, row_named, keeps_back, is_bind}
-use Rattle.part_spec.specs.ConnectionTurn.{is_due, is_drained, is_ignored}
+use Rattle.lload_spec.specs.News.{same_news, is_heard}
+use Rattle.lload_spec.specs.Strict.{is_choice_for, is_asked_for, is_in_unheld, is_notice_placed, lives_as_client, lives_as_connection, may_pass}
+use Rattle.lload_spec.specs.BadMessages.{is_bad}
+use Rattle.part_spec.specs.Marked.{Marked, Taken, entries}
+use Rattle.part_spec.specs.Marks.{has_right_marks}
+use Rattle.part_spec.specs.ClientState.{ClientState, empty_client, step_client, client_of, check_at}
+use Rattle.part_spec.specs.ConnectionState.{ConnectionState, UpRow, empty_connection, step_connection, is_bind_row, is_under, row_named, keeps_back, is_bind, is_there, is_holding, message_facts}
+use Rattle.part_spec.specs.ConnectionTurn.{is_due, is_drained}
 use Rattle.part_spec.specs.Fit.{is_free_for, fit_beginning}
 
--- the entries of a list
-abbrev pub entries : List Marked → List Entry
-entries list = map (λ m. m.entry) list
-
 -- whether a test passes at each entry, by the state before it and with what stands before and behind it
-abbrev pub each_place : {A : Type 0} → (A → Marked → A) → (A → List Marked → Marked → List Marked → Bool) → A → List Marked → List Marked → Bool
+abbrev pub each_place :
+    {A : Type 0} → (A → Marked → A) → (A → List Marked → Marked → List Marked → Bool) → A → List Marked → List Marked
+    → Bool
 each_place step test state before [] = true
-each_place step test state before (m ∷ ms) = test state before m ms && each_place step test (step state m) (before ++ m ∷ []) ms
+each_place step test state before (m ∷ ms) =
+    test state before m ms && each_place step test (step state m) (before ++ m ∷ []) ms
 
 -- whether the letter of a mark passes
 abbrev pub has_letter : (Letter → Bool) → Marked → Bool
@@ -53,41 +57,44 @@ has_letter test m = passes (λ t. test t.letter) m.mark
 
 -- A client.
 
--- the rest of an answer to this operation, if the letter is one
+-- the rest of an answer to this operation, if a letter is one
+abbrev pub answer_told : OpName → Letter → List (List ℕ)
+answer_told op (Reply o rest is_last who) = if same_op op o then rest ∷ [] else []
+answer_told op _ = []
+
+-- and if the letter of a mark is one
 abbrev pub reply_rest : OpName → Option Taken → List (List ℕ)
-reply_rest op None = []
-reply_rest op (Some t) = of_letter t.letter
-  where
-    of_letter : Letter → List (List ℕ)
-    of_letter (Reply o rest is_last who) = if same_op op o then rest ∷ [] else []
-    of_letter _ = []
+reply_rest op mark = elim mark [ None ↦ [] | Some t ↦ answer_told op t.letter ]
 
 -- the answers to an operation that were taken, in order
 abbrev pub replies : List Marked → OpName → List (List ℕ)
 replies [] op = []
 replies (m ∷ ms) op = reply_rest op m.mark ++ replies ms op
 
--- what the client got for the operation is a beginning of the answers that were taken, or such a beginning without a final
--- one and then one refusal
+-- what the client got for the operation is a beginning of the answers that were taken, or such a beginning without a
+-- final one and then one refusal
 abbrev pub is_answered_by : List Marked → Operation → Bool
-is_answered_by list o = allowed (kind_of o.request.rest) (replies list o.name) (outs o)
+is_answered_by list o = allowed o.request.rest (replies list o.name) (outs o)
 
--- whether an operation is refused so: its Outs end with the refusal, and aren't themselves a beginning of the answers
+-- whether an operation is refused so, or as a Cancel answered so, by the answers that were taken
 abbrev pub is_refused_with : List Marked → Refusal → Operation → Bool
-is_refused_with list which o = passes (λ kind. last_passes (bytes_eq (refusal kind which)) (outs o)) (kind_of o.request.rest) && not (is_prefix (outs o) (replies list o.name))
+is_refused_with list which o = is_refused_by_outs (replies list o.name) which o
+
+abbrev pub is_canceled_with : List Marked → CancelAnswer → Operation → Bool
+is_canceled_with list which o = is_canceled_by_outs (replies list o.name) which o
 
 -- whether a letter refuses this operation so
 abbrev pub is_failure : OpName → Refusal → Letter → Bool
-is_failure op which (Failed o other) = same_op op o && refusal_number which == refusal_number other
+is_failure op which (Failed o other) = same_op op o && same_refusal which other
 is_failure op which _ = false
+
+-- the first check of a message behind so many of a client's entries
+abbrev pub check_behind : Settings → ℕ → List Marked → ℕ → Message → Check
+check_behind s c list n m = check_at s (client_of s c (take n list)) m
 
 -- the check at an operation's In
 abbrev pub check_of : Settings → List Marked → Operation → Check
-check_of s list o = check s (client_of s o.name.client (take (length o.before) list)) o.request
-
--- whether the operation's only Out is this refusal, directly behind its In, as its first check wants
-abbrev pub is_refused_at_in : Settings → List Marked → Refusal → Operation → Bool
-is_refused_at_in s list which o = length (outs o) == 1 && first_passes (is_refusal_of which o.request.id (kind_of o.request.rest)) o.behind && refuses_with which (check_of s list o)
+check_of s list o = check_behind s o.name.client list (length o.before) o.request
 
 -- the cause of a refusal: a choice, a letter of a connection, or the first check
 abbrev pub has_cause : Settings → List Marked → Operation → Refusal → Bool
@@ -96,15 +103,25 @@ has_cause s list o C3 = is_refused_by_choice (family (entries list)) Unavailable
 has_cause s list o C4 = list_any (has_letter (is_failure o.name C4)) list
 has_cause s list o C5 = list_any (has_letter (is_failure o.name C5)) list
 has_cause s list o C9 = list_any (has_letter (is_failure o.name C9)) list && asks_who s o
-has_cause s list o which = is_refused_at_in s list which o
+has_cause s list o which = is_checked_so (check_of s list o) (refuses_with which) o
 
--- each refused operation has the refusal's cause
+-- the cause of an answer to a Cancel
+abbrev pub has_cancel_cause : Settings → List Marked → Operation → CancelAnswer → Bool
+has_cancel_cause s list o C13 =
+    some_split (is_canceled_by (λ place m. check_behind s o.name.client list (length place) m) o) (entries list)
+has_cancel_cause s list o which = is_checked_so (check_of s list o) (answers_with which) o
+
+-- each operation that got an answer of the proxy's own has its cause
 abbrev pub has_causes : Settings → List Marked → Operation → Bool
-has_causes s list o = list_all (λ which. implies (is_refused_with list which o) (has_cause s list o which)) (C1 ∷ C2 ∷ C3 ∷ C4 ∷ C5 ∷ C6 ∷ C7 ∷ C8 ∷ C9 ∷ C10 ∷ C11 ∷ C12 ∷ [])
+has_causes s list o =
+    list_all (λ which. implies (is_refused_with list which o) (has_cause s list o which)) refusals
+    && list_all (λ which. implies (is_canceled_with list which o) (has_cancel_cause s list o which))
+    (C13 ∷ cancel_answers)
 
 -- each In has directly behind it what its first check wants
 abbrev pub is_checked : Settings → ClientState → Marked → List Marked → Bool
-is_checked s p m behind = elim (in_message m.entry.what) [ None ↦ true | Some x ↦ is_followed_up x (entries behind) (check s p x) ]
+is_checked s p m behind =
+    elim (in_message m.entry.what) [ None ↦ true | Some x ↦ is_followed_up x (entries behind) (check_at s p x) ]
 
 -- whether a check ends the client so
 abbrev pub ends_for : EndWhy → Check → Bool
@@ -114,7 +131,11 @@ ends_for why _ = false
 -- whether the last two entries are an In that the first check ends for this reason, and the notice
 abbrev pub is_ended_by_check : Settings → ℕ → List Marked → EndWhy → Bool
 is_ended_by_check s c list why =
-    some_split (λ before m behind. passes (λ x. ends_for why (check s (client_of s c before) x)) (in_message m.entry.what) && (length behind == 1 && first_passes is_notice (entries behind))) list
+    some_split
+    (λ before m behind.
+    passes (λ x. ends_for why (check_at s (client_of s c before) x)) (in_message m.entry.what)
+    && (length behind == 1 && first_passes is_notice (entries behind)))
+    list
 
 -- the cause of a client's end: its check, its Unbind, or an event of its link
 abbrev pub has_gone_cause : Settings → ℕ → List Marked → EndWhy → Bool
@@ -129,7 +150,11 @@ is_gone_caused s c before m = elim (gone_why m.entry.what) [ None ↦ true | Som
 
 -- each Chosen is the first of its operation, which is the client's own
 abbrev pub is_chosen_once : ℕ → List Entry → Entry → Bool
-is_chosen_once c place e = elim (chosen e.what) [ None ↦ true | Some x ↦ x.op.client == c && is_some (operation_in place x.op) && not (list_any (is_choice_for x.op) place) ]
+is_chosen_once c place e =
+    elim (chosen e.what) [
+      | None ↦ true
+      | Some x ↦ x.op.client == c && is_some (operation_in c place x.op) && not (list_any (is_choice_for x.op) place)
+    ]
 
 -- whether a letter is an answer with a readable identity
 abbrev pub tells_identity : OpName → Letter → Bool
@@ -138,7 +163,9 @@ tells_identity op _ = false
 
 -- a success that was kept back goes out only with a readable identity
 abbrev pub is_success_known : Settings → List Marked → Operation → Bool
-is_success_known s list o = implies (asks_who s o && list_any (λ r. is_final_for o.request r && has_code 0 r) (outs o)) (list_any (has_letter (tells_identity o.name)) list)
+is_success_known s list o =
+    implies (asks_who s o && list_any (λ r. is_final_for o.request r && has_code 0 r) (outs o))
+    (list_any (has_letter (tells_identity o.name)) list)
 
 -- each operation's Outs are a beginning of the answers that were taken, or such a beginning and one refusal
 abbrev pub each_answered : ℕ → List Marked → Bool
@@ -158,7 +185,8 @@ each_refusal_caused s c list = list_all (has_causes s list) (operations c (entri
 
 -- each In has directly behind it what its first check wants
 abbrev pub each_check_followed : Settings → ℕ → List Marked → Bool
-each_check_followed s c list = each_place (step_client s) (λ p before m behind. is_checked s p m behind) (empty_client c) [] list
+each_check_followed s c list =
+    each_place (step_client s) (λ p before m behind. is_checked s p m behind) (empty_client c) [] list
 
 -- each Busy, and each Unavailable, for a live operation is told directly behind it
 abbrev pub each_busy_told : ℕ → List Marked → Bool
@@ -171,12 +199,17 @@ each_unavailable_told c list = each_split (is_choice_told c Unavailable C3) (ent
 abbrev pub each_gone_caused : Settings → ℕ → List Marked → Bool
 each_gone_caused s c list = each_entry (is_gone_caused s c) list
 
-abbrev pub each_late_caused : List Marked → Bool
-each_late_caused list = each_entry is_late_caused (entries list)
+abbrev pub each_late_caused : ℕ → List Marked → Bool
+each_late_caused c list = each_entry (is_late_caused c) (entries list)
+
+-- each Stalled is of a client that is there and isn't stalled, and each Flowing of one that is there and stalled
+abbrev pub each_stall_caused : ℕ → List Marked → Bool
+each_stall_caused c list = each_entry (is_stall_caused c) (entries list)
 
 -- whether an entry may stand where it does in a client's list
 abbrev pub has_place_in_client : Settings → ℕ → List Entry → Entry → List Entry → Bool
-has_place_in_client s c place e behind = lives_as_client place e && is_chosen_once c place e && is_in_unheld s c place e && is_notice_placed c place e behind
+has_place_in_client s c place e behind =
+    lives_as_client place e && is_chosen_once c place e && is_in_unheld s c place e && is_notice_placed e behind
 
 -- the list is one of a client's life, with choices and requests where they may stand
 abbrev pub lives_as_a_client : Settings → ℕ → List Marked → Bool
@@ -186,50 +219,34 @@ lives_as_a_client s c list = each_split (has_place_in_client s c) (entries list)
 abbrev pub each_success_known : Settings → ℕ → List Marked → Bool
 each_success_known s c list = list_all (is_success_known s list) (operations c (entries list))
 
--- each mark is of its letter
-abbrev pub each_mark_fitting : List Marked → Bool
-each_mark_fitting list = list_all is_fitting list
-
 -- the moment never falls
 abbrev pub moments_never_fall : List Marked → Bool
 moments_never_fall list = each_entry is_later (entries list)
 
 -- a client's share: of the answers, of their causes, and of what is promised beside
-pub record ClientShare (s : Settings) (c : ℕ) (list : List Marked) : Type 0 where
-  pub marks : IsTrue (each_mark_fitting list)
-  pub answered : IsTrue (each_answered c list)
-  pub ended_once : IsTrue (each_ended_once c list)
-  pub outs_owned : IsTrue (each_out_owned c list)
-  pub refusals : IsTrue (each_refusal_caused s c list)
-  pub checks : IsTrue (each_check_followed s c list)
-  pub busy : IsTrue (each_busy_told c list)
-  pub unavailable : IsTrue (each_unavailable_told c list)
-  pub gone : IsTrue (each_gone_caused s c list)
-  pub late : IsTrue (each_late_caused list)
-  pub moments : IsTrue (moments_never_fall list)
-  pub lives : IsTrue (lives_as_a_client s c list)
-  pub successes : IsTrue (each_success_known s c list)
-
--- the same as one test
 abbrev pub keeps_client_share : Settings → ℕ → List Marked → Bool
 keeps_client_share s c list =
-    each_mark_fitting list && each_answered c list && each_ended_once c list && each_out_owned c list && each_refusal_caused s c list
-    && each_check_followed s c list && each_busy_told c list && each_unavailable_told c list && each_gone_caused s c list && each_late_caused list
-    && moments_never_fall list && lives_as_a_client s c list && each_success_known s c list
+    has_right_marks s (Client c) list && each_answered c list && each_ended_once c list && each_out_owned c list
+    && each_refusal_caused s c list
+    && each_check_followed s c list && each_busy_told c list && each_unavailable_told c list
+    && each_gone_caused s c list && each_late_caused c list
+    && each_stall_caused c list && moments_never_fall list && lives_as_a_client s c list && each_success_known s c list
 
 -- A connection.
+
+-- whether a letter is a Forward for whose holder the connection is free
+abbrev pub is_free_by : ConnectionState → Letter → Bool
+is_free_by p (Forward op _ rest ask_who holder) = is_free_for p holder
+is_free_by p _ = false
 
 -- each Sent is the first of its operation, and on a bind connection no Bind is live and nobody else holds it
 abbrev pub is_sent_once : ConnectionState → List Entry → Marked → Bool
 is_sent_once p place m =
     elim (sent_message m.entry.what) [
       | None ↦ true
-      | Some x ↦ not (list_any (λ e. passes (λ y. same_op x.op y.op) (sent_message e.what)) place) && implies (is_bind p) (has_letter (is_free_by p) m)
+      | Some x ↦ not (list_any (λ e. passes (λ y. same_op x.op y.op) (sent_message e.what)) place)
+          && implies (is_bind p) (has_letter (is_free_by p) m)
     ]
-  where
-    is_free_by : ConnectionState → Letter → Bool
-    is_free_by p (Forward op _ rest _ holder) = is_free_for p holder
-    is_free_by p _ = false
 
 -- whether a message is the success of the live Bind that is kept back
 abbrev pub succeeds : Message → UpRow → Bool
@@ -256,47 +273,45 @@ drops op _ = false
 -- whether an own message abandons a live operation by its Drop, or one that expired directly before
 abbrev pub is_due_abandon : ConnectionState → List Entry → Marked → Bool
 is_due_abandon p place m =
-    list_any (λ sent. is_own (abandon sent.id) m.entry && (is_some (row_named p sent.op) && has_letter (drops sent.op) m || last_passes (is_expired sent.op) place)) (sendings p.number place)
+    list_any
+    (λ sent.
+    is_own (abandon sent.id) m.entry
+    && (is_some (row_named p sent.op) && has_letter (drops sent.op) m || last_passes (is_expired sent.op) place))
+    (sendings p.number place)
 
 -- each own message has its reason
 abbrev pub has_reason : Settings → ConnectionState → List Entry → Marked → Bool
 has_reason s p place m =
     implies (is_some (own_message m.entry.what))
-    (is_own_bind s m.entry && last_passes (is_bind_due s p.number) place || is_own who_am_i m.entry && list_any is_who_awaited p.rows || is_due_abandon p place m)
+    (is_own_bind s m.entry && last_passes (is_bind_due s p.number) place
+    || is_own who_am_i m.entry && list_any is_who_awaited p.rows || is_due_abandon p place m)
 
 -- what stands directly behind Expired: the end of the connection for a Bind, else the Abandon
 abbrev pub is_expiry_told : List Entry → UpRow → Bool
-is_expiry_told behind r = if is_bind_row r then first_passes (is_down_by TimedOut) behind else first_passes (is_own (abandon r.id)) behind
+is_expiry_told behind r =
+    if is_bind_row r then first_passes (is_down_by TimedOut) behind else first_passes (is_own (abandon r.id)) behind
 
 -- each Expired is of a live operation that is due, and is followed up
 abbrev pub is_expired_due : Settings → ConnectionState → Marked → List Marked → Bool
-is_expired_due s p m behind = elim (expired_op m.entry.what) [ None ↦ true | Some op ↦ passes (λ r. is_due s m.entry.at r && is_expiry_told (entries behind) r) (row_named p op) ]
+is_expired_due s p m behind =
+    elim (expired_op m.entry.what) [
+      | None ↦ true
+      | Some op ↦ passes (λ r. is_due s m.entry.at r && is_expiry_told (entries behind) r) (row_named p op)
+    ]
 
 -- each Idle is of an operation that isn't live, or of one that doesn't hold the connection
 abbrev pub is_idle_caused : ConnectionState → Marked → Bool
-is_idle_caused p m = elim (idle_op m.entry.what) [ None ↦ true | Some op ↦ if is_bind p then not (passes (same_op op) p.holder) else is_none (row_named p op) ]
-
--- whether a message can't answer the operation of a row
-abbrev pub is_bad_answer : Message → UpRow → Bool
-is_bad_answer m r = not (fits r.kind m.rest) || is_bind_row r && is_final r.kind m.rest && is_none (result_code m.rest)
-
--- whether a message is under an identifier that isn't in use, and can't be dropped
-abbrev pub is_bad_stray : ConnectionState → Message → Bool
-is_bad_stray p m = not (not (m.id == 0) && not (nat_le p.next m.id) && is_response m.rest)
-
--- whether a message takes the connection down
-abbrev pub is_bad : ConnectionState → Message → Bool
-is_bad p m =
-    if is_ignored m then false
-    else if is_under_own p m.id then not (tag_of m.rest == 0x61)
-    else elim (find (is_under m.id) p.rows) [
-      | Some r ↦ is_bad_answer m r
-      | None ↦ if list_any (is_under_who m.id) p.rows then not (tag_of m.rest == 0x79 || tag_of m.rest == 0x78) else is_bad_stray p m
+is_idle_caused p m =
+    elim (idle_op m.entry.what) [
+      | None ↦ true
+      | Some op ↦ if is_bind p then not (passes (same_op op) p.holder) else is_none (row_named p op)
     ]
 
--- each bad message has Down for a bad message directly behind it
+-- each bad message that comes while the connection takes messages has Down for a bad message directly behind it
 abbrev pub is_bad_told : ConnectionState → Marked → List Marked → Bool
-is_bad_told p m behind = implies (passes (is_bad p) (got_message m.entry.what)) (first_passes (is_down_by Bad) (entries behind))
+is_bad_told p m behind =
+    implies (passes (is_bad (message_facts p)) (got_message m.entry.what) && is_there p && not (is_holding p))
+    (first_passes (is_down_by Bad) (entries behind))
 
 -- whether the last entry is Expired of a Bind
 abbrev pub is_bind_expired : ConnectionState → List Entry → Bool
@@ -319,12 +334,20 @@ abbrev pub is_down_caused : Settings → ConnectionState → List Entry → Mark
 is_down_caused s p place m = elim (down_why m.entry.what) [ None ↦ true | Some why ↦ has_down_cause s p place m why ]
 
 -- whether the test passes at each entry of a connection's list, by the state before it
-abbrev pub each_by_state : Settings → ℕ → (ConnectionState → List Entry → Marked → List Marked → Bool) → List Marked → Bool
-each_by_state s u test list = each_place (step_connection s) (λ p before m behind. test p (entries before) m behind) (empty_connection s u) [] list
+abbrev pub each_by_state :
+    Settings → ℕ → (ConnectionState → List Entry → Marked → List Marked → Bool) → List Marked → Bool
+each_by_state s u test list =
+    each_place (step_connection s) (λ p before m behind. test p (entries before) m behind)
+    (empty_connection s u) [] list
 
--- identifiers rise from 1, each used once
-abbrev pub each_id_next : List Marked → Bool
-each_id_next list = each_entry has_next_id (entries list)
+-- each operation and each own message has the right identifier
+abbrev pub each_id_right : Settings → ℕ → List Marked → Bool
+each_id_right s u list = each_by_state s u (λ p place m behind. has_right_id p.ids m.entry.what) list
+
+-- no message comes while the connection holds, and it pauses and resumes in turn
+abbrev pub each_passed : Settings → ℕ → List Marked → Bool
+each_passed s u list =
+    each_by_state s u (λ p place m behind. may_pass (is_kind Regular p.kind) p.waiting m.entry.what) list
 
 -- each operation is sent once, and on a bind connection only where that is free
 abbrev pub each_sent_once : Settings → ℕ → List Marked → Bool
@@ -370,27 +393,12 @@ abbrev pub lives_as_a_connection : List Marked → Bool
 lives_as_a_connection list = each_entry lives_as_connection (entries list)
 
 -- a connection's share: of its identifiers, holders and own messages, of the causes, and of what is promised beside
-pub record ConnectionShare (s : Settings) (u : ℕ) (list : List Marked) : Type 0 where
-  pub marks : IsTrue (each_mark_fitting list)
-  pub ids_next : IsTrue (each_id_next list)
-  pub sent_once : IsTrue (each_sent_once s u list)
-  pub own_reasoned : IsTrue (each_own_reasoned s u list)
-  pub ups : IsTrue (each_up_due s u list)
-  pub retirements : IsTrue (each_retirement_due s list)
-  pub own_bind_ends : IsTrue (each_own_bind_end_due s u list)
-  pub expired : IsTrue (each_expired_due s u list)
-  pub missed : IsTrue (each_missed_caused list)
-  pub idle : IsTrue (each_idle_caused s u list)
-  pub bad_messages : IsTrue (each_bad_told s u list)
-  pub down : IsTrue (each_down_caused s u list)
-  pub moments : IsTrue (moments_never_fall list)
-  pub lives : IsTrue (lives_as_a_connection list)
-
--- the same as one test
 abbrev pub keeps_connection_share : Settings → ℕ → List Marked → Bool
 keeps_connection_share s u list =
-    each_mark_fitting list && each_id_next list && each_sent_once s u list && each_own_reasoned s u list && each_up_due s u list
-    && each_retirement_due s list && each_own_bind_end_due s u list && each_expired_due s u list && each_missed_caused list && each_idle_caused s u list
+    has_right_marks s (Connection u) list && each_id_right s u list && each_passed s u list && each_sent_once s u list
+    && each_own_reasoned s u list && each_up_due s u list
+    && each_retirement_due s list && each_own_bind_end_due s u list && each_expired_due s u list
+    && each_missed_caused list && each_idle_caused s u list
     && each_bad_told s u list && each_down_caused s u list && moments_never_fall list && lives_as_a_connection list
 
 -- The desk.
@@ -401,7 +409,11 @@ is_asked_once place e = elim (asked e.what) [ None ↦ true | Some a ↦ not (li
 
 -- each letter is heard once
 abbrev pub is_heard_once : List Entry → Entry → Bool
-is_heard_once place e = elim (heard e.what) [ None ↦ true | Some letter ↦ not (list_any (λ x. passes (same_news letter) (heard x.what)) place) ]
+is_heard_once place e =
+    elim (heard e.what) [
+      | None ↦ true
+      | Some letter ↦ not (is_heard (same_news letter) place)
+    ]
 
 -- whether an entry may stand where it does in the desk's list
 abbrev pub has_place_in_desk : List Entry → Entry → Bool
@@ -416,15 +428,60 @@ abbrev pub each_choice_right : Settings → List Marked → Bool
 each_choice_right s list = each_chosen_rightly s (entries list)
 
 -- the desk's share: of the choices, and of what is promised beside
-pub record DeskShare (s : Settings) (list : List Marked) : Type 0 where
-  pub marks : IsTrue (each_mark_fitting list)
-  pub right : IsTrue (each_choice_right s list)
-  pub moments : IsTrue (moments_never_fall list)
-  pub lives : IsTrue (lives_as_a_desk list)
-
--- the same as one test
 abbrev pub keeps_desk_share : Settings → List Marked → Bool
-keeps_desk_share s list = each_mark_fitting list && each_choice_right s list && moments_never_fall list && lives_as_a_desk list
+keeps_desk_share s list =
+    has_right_marks s Desk list && each_choice_right s list && moments_never_fall list && lives_as_a_desk list
+
+-- whether a part's list keeps its share of the promises, where each of its letters was fit
+abbrev pub keeps_part_share : Settings → PartName → List Marked → Bool
+keeps_part_share s Desk list = keeps_desk_share s list
+keeps_part_share s (Client c) list = keeps_client_share s c list
+keeps_part_share s (Connection u) list = keeps_connection_share s u list
+
+-- whether it keeps its share up to the first letter that isn't fit
+abbrev pub keeps_share : Settings → PartName → List Marked → Bool
+keeps_share s p list = keeps_part_share s p (fit_beginning s p list)
+
+-- The shares with a fact in each field.
+
+pub record ClientShare (s : Settings) (c : ℕ) (list : List Marked) : Type 0 where
+  pub marks : IsTrue (has_right_marks s (Client c) list)
+  pub answered : IsTrue (each_answered c list)
+  pub ended_once : IsTrue (each_ended_once c list)
+  pub outs_owned : IsTrue (each_out_owned c list)
+  pub refusals : IsTrue (each_refusal_caused s c list)
+  pub checks : IsTrue (each_check_followed s c list)
+  pub busy : IsTrue (each_busy_told c list)
+  pub unavailable : IsTrue (each_unavailable_told c list)
+  pub gone : IsTrue (each_gone_caused s c list)
+  pub late : IsTrue (each_late_caused c list)
+  pub stalls : IsTrue (each_stall_caused c list)
+  pub moments : IsTrue (moments_never_fall list)
+  pub life : IsTrue (lives_as_a_client s c list)
+  pub successes_known : IsTrue (each_success_known s c list)
+
+pub record ConnectionShare (s : Settings) (u : ℕ) (list : List Marked) : Type 0 where
+  pub marks : IsTrue (has_right_marks s (Connection u) list)
+  pub ids_right : IsTrue (each_id_right s u list)
+  pub passed : IsTrue (each_passed s u list)
+  pub sent_once : IsTrue (each_sent_once s u list)
+  pub own_reasoned : IsTrue (each_own_reasoned s u list)
+  pub ups : IsTrue (each_up_due s u list)
+  pub retirements : IsTrue (each_retirement_due s list)
+  pub own_bind_ends : IsTrue (each_own_bind_end_due s u list)
+  pub expired : IsTrue (each_expired_due s u list)
+  pub missed : IsTrue (each_missed_caused list)
+  pub idle : IsTrue (each_idle_caused s u list)
+  pub bad_messages : IsTrue (each_bad_told s u list)
+  pub downs : IsTrue (each_down_caused s u list)
+  pub moments : IsTrue (moments_never_fall list)
+  pub life : IsTrue (lives_as_a_connection list)
+
+pub record DeskShare (s : Settings) (list : List Marked) : Type 0 where
+  pub marks : IsTrue (has_right_marks s Desk list)
+  pub choices : IsTrue (each_choice_right s list)
+  pub moments : IsTrue (moments_never_fall list)
+  pub life : IsTrue (lives_as_a_desk list)
 
 -- what a part's list keeps of the promises, where each of its letters was fit
 abbrev pub PartShare : Settings → PartName → List Marked → Type 0
@@ -435,12 +492,3 @@ PartShare s (Connection u) list = ConnectionShare s u list
 -- a part's share of the promises, up to the first letter of its list that isn't fit
 abbrev pub Share : Settings → PartName → List Marked → Type 0
 Share s p list = PartShare s p (fit_beginning s p list)
-
--- the same as one test
-abbrev pub keeps_part_share : Settings → PartName → List Marked → Bool
-keeps_part_share s Desk list = keeps_desk_share s list
-keeps_part_share s (Client c) list = keeps_client_share s c list
-keeps_part_share s (Connection u) list = keeps_connection_share s u list
-
-abbrev pub keeps_share : Settings → PartName → List Marked → Bool
-keeps_share s p list = keeps_part_share s p (fit_beginning s p list)

@@ -1,6 +1,7 @@
 ghost use Rattle.std.specs.Prelude.{◌≡◌, ◌++◌, IfOk, IsTrue, OnOk, codes, string_bytes};
 ghost use Rattle.lload_spec.specs.Transcript.{answer_text, bound_text, entry_text, kind_text, latency_text, letter_text, message_text, op_text, part_text, what_text, why_text};
-ghost use Rattle.lload_spec.specs.Writable.{can_be_spelled, can_be_written, has_words};
+ghost use Rattle.lload_spec.specs.Entries.{is_news};
+ghost use Rattle.lload_spec.specs.Writable.{can_be_spelled, can_be_written};
 
 use ber_envelope::write_envelope;
 use lload_names::{
@@ -47,6 +48,8 @@ fn write_what(alloc: Global, line: &mut String, what: &What) -> Result<(), NoMem
         What::Out { id, rest } => write_message(alloc, line, "out ", *id, rest),
         What::Late { op } => write_op(line, "late ", *op),
         What::Gone { why } => write_end(line, "gone ", *why),
+        What::Stalled => Ok(line.push_str("stalled")?),
+        What::Flowing => Ok(line.push_str("flowing")?),
         What::Linked => Ok(line.push_str("linked")?),
         What::Up => Ok(line.push_str("up")?),
         What::Retired => Ok(line.push_str("retired")?),
@@ -59,6 +62,8 @@ fn write_what(alloc: Global, line: &mut String, what: &What) -> Result<(), NoMem
         What::Expired { op } => write_op(line, "expired ", *op),
         What::Missed { op } => write_op(line, "missed ", *op),
         What::Idle { op } => write_op(line, "idle ", *op),
+        What::Paused { client } => Ok(write!(line, "paused {client}")?),
+        What::Resumed { client } => Ok(write!(line, "resumed {client}")?),
         What::Down { why } => write_end(line, "down ", *why),
         What::Asked { op, want } => {
             write_op(line, "asked ", *op)?;
@@ -69,6 +74,7 @@ fn write_what(alloc: Global, line: &mut String, what: &What) -> Result<(), NoMem
             Ok(write!(line, " word {word}")?)
         }
         What::Heard { letter } => write_letter(line, letter),
+        What::Replanned { plan, base } => Ok(write!(line, "replanned {plan} base {base}")?),
     }
 }
 
@@ -165,7 +171,7 @@ fn why_word(why: EndWhy) -> &'static str
 
 /// Appends the words for a letter that the desk heard.
 fn write_letter(line: &mut String, letter: &Letter) -> Result<(), NoMemory>
-    requires { IsTrue (has_words letter.now) }
+    requires { IsTrue (is_news letter.now) }
     ensures { OnOk result (string_bytes line.new ≡ string_bytes line.old ++ (codes "heard " ++ letter_text letter.now)) }
 {
     match letter {

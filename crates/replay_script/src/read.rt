@@ -1,11 +1,11 @@
-ghost use Rattle.std.specs.Prelude.{◌≡◌, ◌∷◌, ◌↔◌, ◌^◌, IfOk, MatchOption};
+ghost use Rattle.std.specs.Prelude.{◌≡◌, [], ◌∷◌, ◌↔◌, ◌^◌, IfOk, MatchOption};
 ghost use Rattle.std.specs.Char.{is_ascii_hexdigit};
 ghost use Rattle.std.specs.List.{list_all};
 ghost use Rattle.std.specs.Option.{option_and_then};
 ghost use Rattle.std.specs.Str.{bytes_eq};
-ghost use Rattle.lload_spec.specs.Script.{alone, bytes_of, client_command, command_of, command_of_words, event_command, part_of, step_command, step_from, step_tick, up_command, with_number};
+ghost use Rattle.lload_spec.specs.Script.{alone, bytes_of, client_command, command_of, command_of_words, event_command, of_number, part_of, step_command, step_from, step_tick, up_command};
 ghost use Rattle.lload_names.specs.declared.command.Command.TheVariants.{Tick, SetWord, Settle};
-ghost use Rattle.replay_script.specs.Read.{hex_test, only_bytes, Reads};
+ghost use Rattle.replay_script.specs.Read.{fed_bytes, hex_test, Reads};
 
 use crate::numbers::{read_part_number, read_u32, read_u64};
 use crate::words::Words;
@@ -39,6 +39,8 @@ fn read_words(alloc: Global, mut words: Words) -> Result<Command, LineFault>
     };
     let command = if is(first, "settle") {
         read_alone(Command::Settle, words)
+    } else if is(first, "reload") {
+        read_alone(Command::Reload, words)
     } else if is(first, "tick") {
         read_tick(words)
     } else if is(first, "word") {
@@ -69,18 +71,28 @@ fn read_client(alloc: Global, n: u32, mut words: Words) -> Result<Command, LineF
     let Some(verb) = words.next_word() else {
         return Err(LineFault::NotACommand);
     };
-    if is(verb, "bytes") {
-        let bytes = read_bytes(alloc, words)?;
-        return Ok(Command::ClientBytes { n, bytes });
-    }
-    let command = if is(verb, "arrives") {
-        Command::ClientArrives { n }
-    } else if is(verb, "leaves") {
-        Command::ClientLeaves { n }
-    } else {
-        return Err(LineFault::NotACommand);
+    let Some(text) = words.next_word() else {
+        return client_event(n, verb).ok_or(LineFault::NotACommand);
     };
-    read_alone(command, words).ok_or(LineFault::NotACommand)
+    let bytes = read_bytes(alloc, verb, text, words)?;
+    Ok(Command::ClientBytes { n, bytes })
+}
+
+/// What happens to a client by a word alone.
+fn client_event(n: u32, verb: &[u8]) -> Option<Command>
+    ensures { result ≡ client_command n (verb.now ∷ []) }
+{
+    if is(verb, "arrives") {
+        Some(Command::ClientArrives { n })
+    } else if is(verb, "leaves") {
+        Some(Command::ClientLeaves { n })
+    } else if is(verb, "stalls") {
+        Some(Command::ClientStalls { n })
+    } else if is(verb, "flows") {
+        Some(Command::ClientFlows { n })
+    } else {
+        None
+    }
 }
 
 /// Reads what comes from outside to a connection.
@@ -90,28 +102,34 @@ fn read_up(alloc: Global, n: u32, mut words: Words) -> Result<Command, LineFault
     let Some(verb) = words.next_word() else {
         return Err(LineFault::NotACommand);
     };
-    if is(verb, "bytes") {
-        let bytes = read_bytes(alloc, words)?;
-        return Ok(Command::UpBytes { n, bytes });
-    }
-    let command = if is(verb, "ready") {
-        Command::UpReady { n }
-    } else if is(verb, "lost") {
-        Command::UpLost { n }
-    } else {
-        return Err(LineFault::NotACommand);
+    let Some(text) = words.next_word() else {
+        return up_event(n, verb).ok_or(LineFault::NotACommand);
     };
-    read_alone(command, words).ok_or(LineFault::NotACommand)
+    let bytes = read_bytes(alloc, verb, text, words)?;
+    Ok(Command::UpBytes { n, bytes })
 }
 
-/// Reads the bytes that the only word says in hexadecimal.
-fn read_bytes(alloc: Global, mut words: Words) -> Result<Body, LineFault>
-    ensures { Reads result (only_bytes words.entry) }
+/// What happens to a connection by a word alone.
+fn up_event(n: u32, verb: &[u8]) -> Option<Command>
+    ensures { result ≡ up_command n (verb.now ∷ []) }
 {
-    match (words.next_word(), words.next_word()) {
-        (Some(text), None) => read_hex(alloc, text),
-        _ => Err(LineFault::NotACommand),
+    if is(verb, "ready") {
+        Some(Command::UpReady { n })
+    } else if is(verb, "lost") {
+        Some(Command::UpLost { n })
+    } else {
+        None
     }
+}
+
+/// Reads the bytes that a word says in hexadecimal behind the word `bytes`, where no word is behind them.
+fn read_bytes(alloc: Global, verb: &[u8], text: &[u8], mut words: Words) -> Result<Body, LineFault>
+    ensures { Reads result (fed_bytes (verb.now ∷ text.now ∷ words.entry)) }
+{
+    if !is(verb, "bytes") || words.next_word().is_some() {
+        return Err(LineFault::NotACommand);
+    }
+    read_hex(alloc, text)
 }
 
 /// Reads the bytes that a word says in hexadecimal.
@@ -143,7 +161,7 @@ fn are_hex_digits(text: &[u8]) -> bool
 
 /// Reads the number of milliseconds that a moment rises by.
 fn read_tick(mut words: Words) -> Option<Command>
-    ensures { result ≡ with_number (λ ms. Tick ms) (2 ^ 32) words.entry }
+    ensures { result ≡ of_number (λ ms. Tick ms) (2 ^ 32) words.entry }
 {
     let ms = read_u32(words.next_word()?)?;
     read_alone(Command::Tick { ms }, words)
@@ -151,7 +169,7 @@ fn read_tick(mut words: Words) -> Option<Command>
 
 /// Reads the desk's word.
 fn read_word(mut words: Words) -> Option<Command>
-    ensures { result ≡ with_number (λ w. SetWord w) (2 ^ 64) words.entry }
+    ensures { result ≡ of_number (λ w. SetWord w) (2 ^ 64) words.entry }
 {
     let w = read_u64(words.next_word()?)?;
     read_alone(Command::SetWord { w }, words)

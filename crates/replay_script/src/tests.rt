@@ -1,5 +1,6 @@
 ghost use Rattle.std.specs.Prelude.{IsTrue};
-ghost use Rattle.lload_spec.specs.Writable.{can_be_written, has_words};
+ghost use Rattle.lload_spec.specs.Entries.{is_news};
+ghost use Rattle.lload_spec.specs.Writable.{can_be_written};
 
 use crate::{LineFault, entry_line, read_line};
 use lload_names::{
@@ -19,6 +20,8 @@ fn commands_are_read(rt: HostRuntime) -> Result<(), Fail> {
     for (line, command) in [
         ("client 1 arrives", "ClientArrives { n: 1 }"),
         ("client 1 leaves", "ClientLeaves { n: 1 }"),
+        ("client 1 stalls", "ClientStalls { n: 1 }"),
+        ("client 4294967295 flows", "ClientFlows { n: 4294967295 }"),
         ("up 1 ready", "UpReady { n: 1 }"),
         ("up 4294967295 lost", "UpLost { n: 4294967295 }"),
         ("tick 0", "Tick { ms: 0 }"),
@@ -33,6 +36,7 @@ fn commands_are_read(rt: HostRuntime) -> Result<(), Fail> {
             "StepFrom { part: Up(1), sender: Client(2) }",
         ),
         ("step up 1 tick", "StepTick { n: 1 }"),
+        ("reload", "Reload"),
         ("settle", "Settle"),
         (
             "client 1 bytes 4A036f3D61",
@@ -66,6 +70,9 @@ fn other_lines_are_refused(rt: HostRuntime) {
         "client 1 bytes 0g",
         "up 0 ready",
         "up 1 arrives",
+        "up 1 stalls",
+        "client 1 flows 2",
+        "reload 2",
         "word 18446744073709551616",
         "step desk tick",
         "settle ",
@@ -91,6 +98,8 @@ fn entries_of_clients_are_written(rt: HostRuntime) -> Result<(), Fail> {
     client(&rt, What::Chosen { op, answer }, "chosen 1.1 up 1 of 1");
     client(&rt, What::Late { op }, "late 1.1");
     client(&rt, What::Gone { why }, "gone zeroid");
+    client(&rt, What::Stalled, "stalled");
+    client(&rt, What::Flowing, "flowing");
     let rest = Body::from_slice(rt.alloc(), ANSWER)?;
     let text = "out 300C0201056B070A010004000400";
     client(&rt, What::Out { id: 5, rest }, text);
@@ -107,6 +116,8 @@ fn states_of_connections_are_written(rt: HostRuntime) {
     up(&rt, What::Expired { op }, "expired 1.1");
     up(&rt, What::Missed { op }, "missed 1.1");
     up(&rt, What::Idle { op }, "idle 1.1");
+    up(&rt, What::Paused { client: 2 }, "paused 2");
+    up(&rt, What::Resumed { client: 2 }, "resumed 2");
     up(&rt, What::Down { why }, "down timedout");
 }
 
@@ -152,6 +163,12 @@ fn choices_of_the_desk_are_written(rt: HostRuntime) {
 }
 
 #[test]
+fn plans_of_the_desk_are_written(rt: HostRuntime) {
+    let (plan, base) = (2, 1);
+    desk(&rt, What::Replanned { plan, base }, "replanned 2 base 1");
+}
+
+#[test]
 fn letters_to_the_desk_are_written(rt: HostRuntime) {
     let (op, conn) = (OP, 1);
     heard(&rt, Letter::IsUp { conn }, "heard up 1");
@@ -184,7 +201,7 @@ fn desk(rt: &(impl Abort + AllocGlobal), what: What, text: &str)
 }
 
 fn heard(rt: &(impl Abort + AllocGlobal), letter: Letter, text: &str)
-    requires { IsTrue (has_words letter) }
+    requires { IsTrue (is_news letter) }
 {
     desk(rt, What::Heard { letter }, text);
 }

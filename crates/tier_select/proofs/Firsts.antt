@@ -1,5 +1,5 @@
 -- The first and the last of lists that are made of others.
-use Rattle.std.proofs.Common.{◌≡◌, ℕ, ◌<◌, List, [], ◌∷◌, ◌++◌, Option, Some, None, refl}
+use Rattle.std.proofs.Common.{◌≡◌, List, [], ◌∷◌, ◌++◌, Option, Some, None, refl}
 use Rattle.std.proofs.lemmas.List.{append-nil}
 use Rattle.std.specs.Option.{option_or, option_to_list}
 use Rattle.lload_spec.specs.Lists.{first, last}
@@ -17,7 +17,3 @@ module _ {A : Type 0} where
   pub last-more : (xs : List A) (o : Option A) → last (xs ++ option_to_list o) ≡ option_or o (last xs)
   last-more xs None = rw append-nil refl
   last-more xs (Some x) = last-push xs x
-
-pub or_within : (o r : Option ℕ) (n : ℕ) → ((x : ℕ) → o ≡ Some x → x < n) → ((x : ℕ) → r ≡ Some x → x < n) → (x : ℕ) → option_or o r ≡ Some x → x < n
-or_within None r n h k x e = k x e
-or_within (Some y) r n h k x e = h x e

@@ -2,7 +2,7 @@
 //!
 //! The layers above may rely on this: each pick is that of the definitions in `lload_spec` over the picks and the
 //! latencies so far, where places are counted from 0 in the order of the plan; a pick that finds nothing changes
-//! nothing; only [`Tier::new`] takes memory.
+//! nothing; a choice changes nothing until it is noted; only [`Tier::new`] takes memory.
 #![tactic(auto)]
 
 mod draws;

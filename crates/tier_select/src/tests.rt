@@ -83,6 +83,24 @@ fn bestof_takes_the_lower_mean_of_the_first_two(rt: HostRuntime) -> Result<(), F
 }
 
 #[test]
+fn a_choice_is_noted_apart(rt: HostRuntime) -> Result<(), Fail> {
+    let mut tier = tier_of(rt.alloc(), TierKind::RoundRobin, [1, 1, 1])?;
+    let eligible = first_three();
+    assert_eq!(rt; tier.choose(&eligible, 0), Some(0));
+    assert_eq!(rt; tier.choose(&eligible, 0), Some(0));
+    tier.picked(0);
+    assert_eq!(rt; tier.choose(&eligible, 0), Some(1));
+    let mut wheel = Wheel::new(2);
+    let mut places = PlaceFlags::new();
+    places.set(0, true);
+    places.set(1, true);
+    assert_eq!(rt; wheel.choose(&places), Some(0));
+    wheel.picked(0);
+    assert_eq!(rt; wheel.choose(&places), Some(1));
+    Ok(())
+}
+
+#[test]
 fn turns_go_on_behind_the_last_pick(rt: HostRuntime) -> Result<(), Fail> {
     let mut tier = tier_of(rt.alloc(), TierKind::RoundRobin, [1, 1, 1])?;
     let mut eligible = first_three();

@@ -5,7 +5,7 @@ ghost use Rattle.lload_names.specs.declared.plans.TierPlan.{TierPlan};
 ghost use Rattle.lload_names.specs.Plans.{IsTier};
 ghost use Rattle.lload_spec.specs.Picks.{better_of_two, mean};
 ghost use Rattle.tier_select.specs.Flags.{is_set, NoneSet};
-ghost use Rattle.tier_select.specs.Calls.{Call, Heard, Standing, standing, pick, pick_made, order_of, mean_at, choice};
+ghost use Rattle.tier_select.specs.Calls.{Call, Heard, Picked, Standing, standing, pick, pick_made, order_of, mean_at, choice};
 
 use crate::draws::{Draws, Member};
 use crate::flags::Flags;
@@ -66,7 +66,27 @@ impl Tier {
     }
 
     /// The backend that comes next among those that are eligible, by its place in the tier; `word` draws the order of
-    /// a weighted tier. `None` exactly where no backend of the tier is eligible, and then nothing changes. It takes no
+    /// a weighted tier. `None` exactly where no backend of the tier is eligible. Nothing changes: [`Tier::picked`] notes
+    /// the pick. It takes no memory.
+    pub fn choose(&self, eligible: &Flags, word: u64) -> Option<u32>
+        ensures choice { result ≡ choice self.now eligible.now word }
+        ensures pick { (plan : TierPlan) (calls : List Call) → self.now ≡ standing plan calls → result ≡ pick plan calls eligible.now word }
+        ensures none { (result ≡ None) ↔ NoneSet (length self.now.weights) eligible.now }
+        ensures within { ForSome result (λ place. place < length self.now.weights) }
+    {
+        self.next(eligible, word)
+    }
+
+    /// A backend was picked, by its place in the tier. It takes no memory.
+    pub fn picked(&mut self, place: u32)
+        requires { place < length self.old.weights }
+        ensures calls { (plan : TierPlan) (calls : List Call) → self.old ≡ standing plan calls → self.new ≡ standing plan (calls ++ Picked place ∷ []) }
+        ensures weights { self.new.weights ≡ self.old.weights }
+    {
+        self.chosen = Some(place);
+    }
+
+    /// Chooses a backend and notes the pick. Where no backend of the tier is eligible, nothing changes. It takes no
     /// memory.
     pub fn pick(&mut self, eligible: &Flags, word: u64) -> Option<u32>
         ensures pick { (plan : TierPlan) (calls : List Call) → self.old ≡ standing plan calls → result ≡ pick plan calls eligible.now word }
@@ -76,7 +96,9 @@ impl Tier {
         ensures weights { self.new.weights ≡ self.old.weights }
     {
         let place = self.choose(eligible, word);
-        self.chosen = place.or(self.chosen);
+        if let Some(place) = place {
+            self.picked(place);
+        }
         place
     }
 
@@ -89,7 +111,7 @@ impl Tier {
         self.latencies[place as usize].note(latency);
     }
 
-    fn choose(&self, eligible: &Flags, word: u64) -> Option<u32>
+    fn next(&self, eligible: &Flags, word: u64) -> Option<u32>
         ensures { result ≡ choice self.now eligible.now word }
     {
         match self.kind {

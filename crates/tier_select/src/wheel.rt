@@ -1,4 +1,4 @@
-ghost use Rattle.std.specs.Prelude.{◌≡◌, ℕ, ◌<◌, ◌≤◌, ◌↔◌, [], ◌++◌, List, None};
+ghost use Rattle.std.specs.Prelude.{◌≡◌, ℕ, ◌<◌, ◌≤◌, ◌↔◌, [], ◌∷◌, ◌++◌, List, None};
 ghost use Rattle.std.specs.Option.{ForSome, option_to_list};
 ghost use Rattle.tier_select.specs.Flags.{NoneSet};
 ghost use Rattle.tier_select.specs.Turns.{Turns, turns, turns_pick};
@@ -38,16 +38,36 @@ impl Wheel {
         }
     }
 
-    /// The first eligible place in turn; `None` exactly where no place of the wheel is eligible, and then nothing
-    /// changes. It takes no memory.
+    /// The first eligible place in turn; `None` exactly where no place of the wheel is eligible. Nothing changes:
+    /// [`Wheel::picked`] notes the pick. It takes no memory.
+    pub fn choose(&self, eligible: &PlaceFlags) -> Option<u32>
+        ensures pick { (picks : List ℕ) → self.now ≡ turns self.now.count picks → result ≡ turns_pick self.now.count picks eligible.now }
+        ensures none { (result ≡ None) ↔ NoneSet self.now.count eligible.now }
+        ensures within { ForSome result (λ place. place < self.now.count) }
+    {
+        eligible.first_in_turn(self.chosen, self.count)
+    }
+
+    /// A place was picked. It takes no memory.
+    pub fn picked(&mut self, place: u32)
+        requires { place < self.old.count }
+        ensures picks { (picks : List ℕ) → self.old ≡ turns self.old.count picks → self.new ≡ turns self.old.count (picks ++ place ∷ []) }
+    {
+        self.chosen = Some(place);
+    }
+
+    /// Chooses a place and notes the pick. Where no place of the wheel is eligible, nothing changes. It takes no
+    /// memory.
     pub fn pick(&mut self, eligible: &PlaceFlags) -> Option<u32>
         ensures pick { (picks : List ℕ) → self.old ≡ turns self.old.count picks → result ≡ turns_pick self.old.count picks eligible.now }
         ensures picks { (picks : List ℕ) → self.old ≡ turns self.old.count picks → self.new ≡ turns self.old.count (picks ++ option_to_list result) }
         ensures none { (result ≡ None) ↔ NoneSet self.old.count eligible.now }
         ensures within { ForSome result (λ place. place < self.old.count) }
     {
-        let place = eligible.first_in_turn(self.chosen, self.count);
-        self.chosen = place.or(self.chosen);
+        let place = self.choose(eligible);
+        if let Some(place) = place {
+            self.picked(place);
+        }
         place
     }
 }

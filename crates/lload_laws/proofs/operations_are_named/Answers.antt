@@ -1,17 +1,11 @@
-use Rattle.lload_laws.proofs.ClientGrowth.{own_names, none_beyond, none_at_zero, holds_of_named, named_is_there}
+use Rattle.lload_laws.proofs.ClientGrowth.{own_names, old_operations, holds_of_named}
 use Rattle.lload_laws.proofs.operations_are_named.Goals as goal
 
 pub returns-clause-own : goal.returns-clause-own
 returns-clause-own c = own_names
 
-pub returns-clause-none_beyond : goal.returns-clause-none_beyond
-returns-clause-none_beyond c = none_beyond
-
-pub returns-clause-none_at_zero : goal.returns-clause-none_at_zero
-returns-clause-none_at_zero c = none_at_zero
+pub returns-clause-old : goal.returns-clause-old
+returns-clause-old c = old_operations
 
 pub returns-clause-holds : goal.returns-clause-holds
 returns-clause-holds c = holds_of_named
-
-pub returns-clause-there : goal.returns-clause-there
-returns-clause-there c = named_is_there

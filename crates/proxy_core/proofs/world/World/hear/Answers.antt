@@ -1,8 +1,0 @@
-use Rattle.proxy_core.specs.States.{heard_link}
-use Rattle.proxy_core.specs.Rounds.{hearing}
-use Rattle.proxy_core.proofs.Standing.{heard_stands}
-use Rattle.proxy_core.proofs.RoundsMade.{stands_by}
-use Rattle.proxy_core.proofs.world.World.hear.Goals as goal
-
-pub returns-clause-stands : goal.returns-clause-stands
-returns-clause-stands c = stands_by c.take_news.result c.args.self.now c.take_news.new.self (record c.args.self.now { link = heard_link c.args.self.now.link }) (hearing c.args.self.now.link) (heard_stands c.args.self.now) c.take_news.ensures.made c.take_news.ensures.state

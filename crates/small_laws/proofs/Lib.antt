@@ -1,0 +1,4 @@
+pub mod ListLaws
+pub mod FamilyGrowth
+pub mod ClientGrowth
+pub mod ConnectionGrowth

@@ -1,0 +1,3 @@
+pub mod FamilyGrowth
+pub mod ClientGrowth
+pub mod ConnectionGrowth

@@ -1,0 +1,13 @@
+pub mod Settings
+pub mod Plain
+pub mod Lists
+pub mod Journal
+pub mod Entries
+pub mod Operations
+pub mod Answers
+pub mod Fifo
+pub mod Identifiers
+pub mod Laws
+pub mod History
+pub mod Standing
+pub mod Follows
