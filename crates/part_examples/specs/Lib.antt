@@ -1,7 +1,15 @@
 pub mod Octets
-pub mod World
 pub mod Scripts
 pub mod RuleScripts
 pub mod PickScripts
+pub mod FeatureScripts
 pub mod Shares
+pub mod Reads
 pub mod WrongLists
+pub mod WrongLinks
+pub mod AloneLists
+pub mod WorkedLetters
+pub mod RestScripts
+pub mod Lines
+pub mod Merges
+pub mod MergedFamilies

@@ -1,11 +1,12 @@
 -- Worked journals of Binds and identities, as lists of entries.
 use Rattle.std.specs.Prelude.{List, [], ◌∷◌, None}
 use Rattle.lload_names.specs.declared.names.Entry.{Entry}
-use Rattle.lload_names.specs.declared.names.What.TheVariants.{Arrived, In, Chosen, Out, Linked, Up as IsUp, Sent, Own, Got, Asked, Chose, Heard}
+use Rattle.lload_names.specs.declared.names.What.TheVariants.{Arrived, In, Chosen, Out, Linked, Up as IsUp, Sent, Own, Got, Asked, Chose, Heard, Missed, Down}
 use Rattle.lload_names.specs.declared.names.Answer.TheVariants.{Go, Busy}
-use Rattle.lload_names.specs.declared.names.Letter.TheVariants.{Ended, IsUp as HeardUp}
+use Rattle.lload_names.specs.declared.names.Letter.TheVariants.{Ended, IsUp as HeardUp, IsDown as HeardDown}
+use Rattle.lload_names.specs.declared.names.EndWhy.TheVariants.{Lost}
 use Rattle.spec_examples.specs.Entries.{client, up, desk, op, regular, bind}
-use Rattle.spec_examples.specs.Octets.{delete_body, search_body, search_entry, abandon_of_1, sasl_first, sasl_in_progress, sasl_second, bind_done, who_am_i_body, who_is_ann, delete_for_ann, delete_in_exchange, bind_busy, delete_for_nobody, search_for_nobody, delete_for_x, bind_x, bind_x_unproved, bind_refused, own_bind_body, abandon_of_2}
+use Rattle.spec_examples.specs.Octets.{delete_body, search_body, search_entry, abandon_of_1, sasl_first, sasl_in_progress, sasl_second, bind_done, who_am_i_body, who_is_ann, delete_for_ann, delete_in_exchange, bind_busy, delete_for_nobody, search_for_nobody, delete_for_x, bind_x, bind_x_unproved, bind_refused, own_bind_body, abandon_of_2, bind_lost}
 
 -- a Delete of a client that sent no Bind
 abbrev pub anonymous_delete : List Entry
@@ -42,10 +43,10 @@ sasl_exchange =
     ∷ up 2 (Got 1 sasl_in_progress)
     ∷ client 1 (Out 1 sasl_in_progress)
     ∷ client 1 (In 2 sasl_second)
-    ∷ up 2 (Sent 2 (op 1 2) sasl_second)
-    ∷ up 2 (Got 2 bind_done)
-    ∷ up 2 (Own 3 who_am_i_body)
-    ∷ up 2 (Got 3 who_is_ann)
+    ∷ up 2 (Sent 1 (op 1 2) sasl_second)
+    ∷ up 2 (Got 1 bind_done)
+    ∷ up 2 (Own 2 who_am_i_body)
+    ∷ up 2 (Got 2 who_is_ann)
     ∷ desk (Heard (Ended (op 1 1) 2 None))
     ∷ client 1 (Out 2 bind_done)
     ∷ client 1 (In 3 delete_body)
@@ -169,8 +170,8 @@ later_bind_refused =
     ∷ desk (Asked (op 1 2) bind)
     ∷ desk (Chose (op 1 2) (Go 2 1) 0)
     ∷ client 1 (Chosen (op 1 2) (Go 2 1))
-    ∷ up 2 (Sent 2 (op 1 2) bind_x)
-    ∷ up 2 (Got 2 bind_refused)
+    ∷ up 2 (Sent 1 (op 1 2) bind_x)
+    ∷ up 2 (Got 1 bind_refused)
     ∷ desk (Heard (Ended (op 1 2) 2 None))
     ∷ client 1 (Out 2 bind_refused)
     ∷ client 1 (In 3 delete_body)
@@ -205,4 +206,34 @@ privileged_client =
     ∷ desk (Chose (op 1 2) (Go 1 1) 0)
     ∷ client 1 (Chosen (op 1 2) (Go 1 1))
     ∷ up 1 (Sent 2 (op 1 2) delete_for_ann)
+    ∷ []
+
+-- the desk chooses a bind connection behind the end of an exchange there, before it hears that the connection is lost
+abbrev pub chosen_behind_loss : List Entry
+chosen_behind_loss =
+    up 1 Linked
+    ∷ up 1 IsUp
+    ∷ desk (Heard (HeardUp 1))
+    ∷ up 2 Linked
+    ∷ up 2 IsUp
+    ∷ desk (Heard (HeardUp 2))
+    ∷ client 1 Arrived
+    ∷ client 2 Arrived
+    ∷ client 1 (In 1 sasl_first)
+    ∷ desk (Asked (op 1 1) bind)
+    ∷ desk (Chose (op 1 1) (Go 2 1) 0)
+    ∷ client 1 (Chosen (op 1 1) (Go 2 1))
+    ∷ up 2 (Sent 1 (op 1 1) sasl_first)
+    ∷ up 2 (Got 1 sasl_in_progress)
+    ∷ client 1 (Out 1 sasl_in_progress)
+    ∷ up 2 (Down Lost)
+    ∷ desk (Heard (Ended (op 1 1) 2 None))
+    ∷ client 2 (In 1 sasl_first)
+    ∷ desk (Asked (op 2 1) bind)
+    ∷ desk (Chose (op 2 1) (Go 2 1) 0)
+    ∷ desk (Heard (HeardDown 2))
+    ∷ client 2 (Chosen (op 2 1) (Go 2 1))
+    ∷ up 2 (Missed (op 2 1))
+    ∷ desk (Heard (Ended (op 2 1) 2 None))
+    ∷ client 2 (Out 1 bind_lost)
     ∷ []

@@ -5,3 +5,6 @@ pub mod Binds
 pub mod Connections
 pub mod Picks
 pub mod Refusals
+pub mod Features
+pub mod Beside
+pub mod Alone

@@ -1,4 +1,4 @@
--- The letters that the lists of worked journals stand for: for each part those that it gave, each with its receiver.
+-- The letters that the lists of worked journals give: of each part those that it gave, each with its receiver.
 use Rattle.std.specs.Prelude.{true, false, List, [], ◌∷◌, Some, None}
 use Rattle.lload_names.specs.declared.names.Letter.{Letter}
 use Rattle.lload_names.specs.declared.names.PartName.{PartName}
@@ -358,4 +358,14 @@ restricted_to_connection_of_connection_3 =
     posted Desk (HeardUp 3)
     ∷ posted (Client 1) (Reply (op 1 3) bind_done true None)
     ∷ posted Desk (Ended (op 1 3) 3 None)
+    ∷ []
+
+-- of a connection that is lost within an exchange, and then misses the Bind that goes on
+abbrev pub lost_exchange_of_connection_2 : List Posted
+lost_exchange_of_connection_2 =
+    posted Desk (HeardUp 2)
+    ∷ posted (Client 1) (Reply (op 1 1) sasl_in_progress true None)
+    ∷ posted Desk (Ended (op 1 1) 2 None)
+    ∷ posted Desk (HeardDown 2)
+    ∷ posted (Client 1) (Failed (op 1 2) C4)
     ∷ []
