@@ -1,4 +1,4 @@
-ghost use Rattle.std.specs.Prelude.{◌≡◌, ℕ, [], Option, Some, None, Ok, true, false, OnOk, OnErr, IfOk, is_some, is_none};
+ghost use Rattle.std.specs.Prelude.{◌≡◌, ℕ, [], Option, Some, None, Ok, true, false, OnOk, OnErr, IfOk, IsSome, is_none};
 ghost use Rattle.bind_pool.specs.Holders.{holder_of, taken, without, holds, OthersStay, Rises};
 
 use lload_names::{NoMemory, OpName};
@@ -36,11 +36,12 @@ impl BindPool {
     }
 
     /// Makes an operation the holder of a connection; `Ok(false)` exactly where it has a holder, and then nothing
-    /// changes. For want of memory nothing changes.
+    /// changes and no memory is wanted. For want of memory nothing changes.
     pub fn take(&mut self, conn: u32, op: OpName) -> Result<bool, NoMemory>
         ensures answer { IfOk result (λ taken. taken ≡ is_none (holder_of conn self.old)) }
         ensures taken { result ≡ Ok true → self.new ≡ taken conn op self.old }
         ensures held { result ≡ Ok false → self.new ≡ self.old }
+        ensures no_memory { IsSome (holder_of conn self.old) → result ≡ Ok false }
         ensures holder { result ≡ Ok true → holder_of conn self.new ≡ Some op }
         ensures others { OthersStay conn self.old self.new }
         ensures err { OnErr result (self.new ≡ self.old) }

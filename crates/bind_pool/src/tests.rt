@@ -16,3 +16,18 @@ fn a_connection_has_one_holder_until_it_gives_it_back(rt: HostRuntime) -> Result
     assert_eq!(rt; pool.holder(1), Some(second));
     Ok(())
 }
+
+#[test]
+fn a_thousand_connections_have_their_holders(rt: HostRuntime) -> Result<(), Fail> {
+    let mut pool = BindPool::new(rt.alloc());
+    for conn in 1..1001 {
+        let op = OpName { client: conn, k: 1 };
+        assert_eq!(rt; pool.take(conn, op)?, true);
+    }
+    for conn in 1..1001 {
+        let op = OpName { client: conn, k: 1 };
+        assert_eq!(rt; pool.holder(conn), Some(op));
+        assert_eq!(rt; pool.take(conn, op)?, false);
+    }
+    Ok(())
+}

@@ -1,88 +1,107 @@
 -- The entries of the map, and the rows that they stand for.
-use Rattle.std.proofs.Common.{◌≡◌, ℕ, ◌+◌, ◌≤◌, Bool, true, false, ◌==◌, if◌then◌else◌, cond, List, [], ◌∷◌, ◌++◌, Option, Some, None, arith, refl, ap, ◌∙◌}
+use Rattle.std.proofs.Common.{◌≡◌, ℕ, suc, Bool, true, false, ◌==◌, if◌then◌else◌, cond, List, [], ◌∷◌, length, Option, Some, None, arith, refl, ap, ◌∙◌, sym}
 use Rattle.std.proofs.lemmas.Bool.Decides.{nat_tests}
-use Rattle.std.specs.Option.{option_map}
+use Rattle.std.specs.Prelude.{nat_lt}
 use Rattle.std.specs.BTreeMap.{insert_entry, is_at}
 use Rattle.std.specs.Map.{lookup, remove_entry, set_value}
 use Rattle.std.specs.Ordering.{nat_cmp, match_ordering}
 use Rattle.std.specs.declared.cmp.Ordering.{Ordering}
 use Rattle.std.specs.declared.cmp.Ordering.TheVariants.{Less, Equal, Greater}
-use Rattle.std.specs.Cmp.{nat_cmp_is}
-use Rattle.id_table.specs.Rows.{row_of, without, touched, Rises}
-use Rattle.id_table.specs.View.{row_at, rows_of}
+use Rattle.id_table.specs.Rows.{row_of, put, without, changed}
+use Rattle.id_table.specs.Filed.{rows_of, AreFiled}
 use Rattle.id_table.specs.declared.row.Row.{Row}
-use Rattle.id_table.specs.declared.table.Held.{Held}
-
-same_number : (a b : ℕ) → (a == b) ≡ true → a ≡ b
-same_number a b e = grind (arith, nat_tests)
 
 -- the map's test of a key is the rows' test of an identifier
 at-key : (id k : ℕ) → is_at (nat_cmp id) k ≡ (k == id)
 at-key id k = grind (arith, nat_tests)
 
-row-step : (id k : ℕ) (h : Held) (a b : Bool) (x : Option Row) (y : Option Held) → (k == id) ≡ a → b ≡ a → x ≡ option_map (row_at id) y → (if a then Some (row_at k h) else x) ≡ option_map (row_at id) (cond b (Some h) y)
-row-step id k h true true x y p q e = ap (λ i. Some (row_at i h)) (same_number k id p)
-row-step id k h false false x y p q e = e
-row-step id k h true false x y p q e = absurd (let bad : false ≡ true = q in cc)
-row-step id k h false true x y p q e = absurd (let bad : true ≡ false = q in cc)
+same-test : (id : ℕ) (e : ℕ × Row) → e.1.id ≡ e.0 → (e.1.id == id) ≡ is_at (nat_cmp id) e.0
+same-test id e h = ap (λ k. k == id) h ∙ sym (at-key id e.0)
 
--- a row is found where the map finds its rest
-pub row-lookup : (id : ℕ) (es : List (ℕ × Held)) → row_of id (rows_of es) ≡ option_map (row_at id) (lookup (is_at (nat_cmp id)) es)
-row-lookup id [] = refl
-row-lookup id (e ∷ es) = row-step id e.0 e.1 (e.0 == id) (is_at (nat_cmp id) e.0) _ _ refl (at-key id e.0) (row-lookup id es)
+pub rows-length : (es : List (ℕ × Row)) → length (rows_of es) ≡ length es
+rows-length [] = refl
+rows-length (e ∷ es) = ap suc (rows-length es)
 
-without-step : (k : ℕ) (h : Held) (a b : Bool) (es fs : List (ℕ × Held)) (y : List Row) → b ≡ a → y ≡ rows_of fs → (if a then rows_of es else row_at k h ∷ y) ≡ rows_of (cond b es ((k, h) ∷ fs))
-without-step k h true true es fs y q e = refl
-without-step k h false false es fs y q e = ap (λ z. row_at k h ∷ z) e
-without-step k h true false es fs y q e = absurd (let bad : false ≡ true = q in cc)
-without-step k h false true es fs y q e = absurd (let bad : true ≡ false = q in cc)
+pick : {A : Type 0} (a b : Bool) (x y z : A) → a ≡ b → y ≡ z → (if a then x else y) ≡ cond b x z
+pick true true x y z p e = refl
+pick false false x y z p e = e
+pick true false x y z p e = absurd (let bad : true ≡ false = p in cc)
+pick false true x y z p e = absurd (let bad : false ≡ true = p in cc)
 
-pub row-found : (id : ℕ) (es : List (ℕ × Held)) (h : Held) → lookup (is_at (nat_cmp id)) es ≡ Some h → row_of id (rows_of es) ≡ Some (row_at id h)
-row-found id es h e = row-lookup id es ∙ ap (option_map (row_at id)) e
+-- a row is found where the map finds it
+pub row-lookup : (id : ℕ) (es : List (ℕ × Row)) → AreFiled es → row_of id (rows_of es) ≡ lookup (is_at (nat_cmp id)) es
+row-lookup id [] f = refl
+row-lookup id (e ∷ es) f = pick (e.1.id == id) (is_at (nat_cmp id) e.0) (Some e.1) _ _ (same-test id e f.0) (row-lookup id es f.1)
 
-pub row-missed : (id : ℕ) (es : List (ℕ × Held)) → lookup (is_at (nat_cmp id)) es ≡ None → row_of id (rows_of es) ≡ None
-row-missed id es e = row-lookup id es ∙ ap (option_map (row_at id)) e
+remove-step : (a b : Bool) (e : ℕ × Row) (es fs : List (ℕ × Row)) (y : List Row) → a ≡ b → y ≡ rows_of fs → (if a then rows_of es else e.1 ∷ y) ≡ rows_of (cond b es (e ∷ fs))
+remove-step true true e es fs y p h = refl
+remove-step false false e es fs y p h = ap (λ z. e.1 ∷ z) h
+remove-step true false e es fs y p h = absurd (let bad : true ≡ false = p in cc)
+remove-step false true e es fs y p h = absurd (let bad : false ≡ true = p in cc)
 
 -- what is left in the map is what is left of the rows
-pub rows-remove : (id : ℕ) (es : List (ℕ × Held)) → without id (rows_of es) ≡ rows_of (remove_entry (is_at (nat_cmp id)) es)
-rows-remove id [] = refl
-rows-remove id (e ∷ es) = without-step e.0 e.1 (e.0 == id) (is_at (nat_cmp id) e.0) es (remove_entry (is_at (nat_cmp id)) es) _ (at-key id e.0) (rows-remove id es)
+pub rows-remove : (id : ℕ) (es : List (ℕ × Row)) → AreFiled es → without id (rows_of es) ≡ rows_of (remove_entry (is_at (nat_cmp id)) es)
+rows-remove id [] f = refl
+rows-remove id (e ∷ es) f = remove-step (e.1.id == id) (is_at (nat_cmp id) e.0) e es _ _ (same-test id e f.0) (rows-remove id es f.1)
 
--- a held rest that was answered at a moment
-abbrev pub answered : ℕ → Held → Held
-answered now h = record h { last = now }
+filed-step : (b : Bool) (e : ℕ × Row) (es fs : List (ℕ × Row)) → AreFiled (e ∷ es) → AreFiled fs → AreFiled (cond b es (e ∷ fs))
+filed-step true e es fs f g = f.1
+filed-step false e es fs f g = (f.0, g)
 
-touch-step : (k now : ℕ) (g h : Held) (a b : Bool) (x : Option Held) (es fs : List (ℕ × Held)) (y : List Row) → b ≡ a → cond b (Some g) x ≡ Some h → (x ≡ Some h → y ≡ rows_of fs) → (if a then row_at k (answered now g) ∷ rows_of es else row_at k g ∷ y) ≡ rows_of (cond b ((k, answered now h) ∷ es) ((k, g) ∷ fs))
-touch-step k now g h true true x es fs y q f e = let same : g ≡ h = cc in ap (λ i. row_at k (answered now i) ∷ rows_of es) same
-touch-step k now g h false false x es fs y q f e = ap (λ z. row_at k g ∷ z) (e f)
-touch-step k now g h true false x es fs y q f e = absurd (let bad : false ≡ true = q in cc)
-touch-step k now g h false true x es fs y q f e = absurd (let bad : true ≡ false = q in cc)
+pub filed-remove : (id : ℕ) (es : List (ℕ × Row)) → AreFiled es → AreFiled (remove_entry (is_at (nat_cmp id)) es)
+filed-remove id [] f = tt
+filed-remove id (e ∷ es) f = filed-step (is_at (nat_cmp id) e.0) e es _ f (filed-remove id es f.1)
 
--- what is written to a found rest is written to its row
-pub rows-set : (id now : ℕ) (es : List (ℕ × Held)) (h : Held) → lookup (is_at (nat_cmp id)) es ≡ Some h → touched id now (rows_of es) ≡ rows_of (set_value (is_at (nat_cmp id)) es (answered now h))
-rows-set id now [] h f = absurd (let bad : ◌≡◌ {A = Option Held} None (Some h) = f in cc)
-rows-set id now (e ∷ es) h f = touch-step e.0 now e.1 h (e.0 == id) (is_at (nat_cmp id) e.0) (lookup (is_at (nat_cmp id)) es) es (set_value (is_at (nat_cmp id)) es (answered now h)) _ (at-key id e.0) f (rows-set id now es h)
+-- a row that is new to the map goes to its place
+pub rows-insert : (id : ℕ) (r : Row) (es : List (ℕ × Row)) → r.id ≡ id → AreFiled es → lookup (is_at (nat_cmp id)) es ≡ None → rows_of (insert_entry nat_cmp es id r) ≡ put r (rows_of es)
+rows-insert id r [] h f none = refl
+rows-insert id r (e ∷ es) h f none = by (nat_cmp id e.0) refl (is_at (nat_cmp id) e.0) refl none (rows-insert id r es h f.1)
+  where
+    below : Less ≡ nat_cmp id e.0 → nat_lt r.id e.1.id ≡ true
+    below o = ap (λ n. nat_lt n e.1.id) h ∙ ap (nat_lt id) f.0 ∙ grind (arith, nat_tests, o)
 
-miss-step : (k now : ℕ) (g : Held) (a b : Bool) (x : Option Held) (es : List (ℕ × Held)) (y : List Row) → b ≡ a → cond b (Some g) x ≡ None → (x ≡ None → y ≡ rows_of es) → (if a then row_at k (answered now g) ∷ rows_of es else row_at k g ∷ y) ≡ row_at k g ∷ rows_of es
-miss-step k now g false false x es y q f e = ap (λ z. row_at k g ∷ z) (e f)
-miss-step k now g a true x es y q f e = absurd (let bad : ◌≡◌ {A = Option Held} (Some g) None = f in cc)
-miss-step k now g true false x es y q f e = absurd (let bad : false ≡ true = q in cc)
+    above : Greater ≡ nat_cmp id e.0 → nat_lt r.id e.1.id ≡ false
+    above o = ap (λ n. nat_lt n e.1.id) h ∙ ap (nat_lt id) f.0 ∙ grind (arith, nat_tests, o)
 
--- where the map finds nothing, no row is touched
-pub rows-miss : (id now : ℕ) (es : List (ℕ × Held)) → lookup (is_at (nat_cmp id)) es ≡ None → touched id now (rows_of es) ≡ rows_of es
-rows-miss id now [] f = refl
-rows-miss id now (e ∷ es) f = miss-step e.0 now e.1 (e.0 == id) (is_at (nat_cmp id) e.0) (lookup (is_at (nat_cmp id)) es) es _ (at-key id e.0) f (rows-miss id now es)
+    by : (o : Ordering) → o ≡ nat_cmp id e.0 → (b : Bool) → is_at (nat_cmp id) e.0 ≡ b → cond b (Some e.1) (lookup (is_at (nat_cmp id)) es) ≡ None → (lookup (is_at (nat_cmp id)) es ≡ None → rows_of (insert_entry nat_cmp es id r) ≡ put r (rows_of es)) → rows_of (match_ordering o ((id, r) ∷ e ∷ es) ((e.0, r) ∷ es) (e ∷ insert_entry nat_cmp es id r)) ≡ put r (e.1 ∷ rows_of es)
+    by Less o b t n ih = sym (ap (λ c. cond c (r ∷ e.1 ∷ rows_of es) (e.1 ∷ put r (rows_of es))) (below o))
+    by Greater o false t n ih = ap (λ l. e.1 ∷ l) (ih n) ∙ sym (ap (λ c. cond c (r ∷ e.1 ∷ rows_of es) (e.1 ∷ put r (rows_of es))) (above o))
+    by Equal o false t n ih = absurd (let bad : false ≡ true = sym t ∙ grind (arith, nat_tests, o) in cc)
+    by o p true t n ih = absurd (let bad : ◌≡◌ {A = Option Row} (Some e.1) None = n in cc)
 
-pub rises-le : (low : ℕ) (rows : List Row) (next : ℕ) → Rises low rows next → low ≤ next
-rises-le low [] next h = h
-rises-le low (r ∷ rs) next h = omega (arith, h.0, rises-le (r.id + 1) rs next h.1)
+-- what is written to a found row is written to the row of the identifier
+set-step : (change : Row → Row) (a b : Bool) (e : ℕ × Row) (r : Row) (x : Option Row) (es fs : List (ℕ × Row)) (y : List Row) → a ≡ b → cond b (Some e.1) x ≡ Some r → (x ≡ Some r → y ≡ rows_of fs) → (if a then change e.1 ∷ rows_of es else e.1 ∷ y) ≡ rows_of (cond b ((e.0, change r) ∷ es) (e ∷ fs))
+set-step change true true e r x es fs y p f h = let same : e.1 ≡ r = cc in ap (λ i. change i ∷ rows_of es) same
+set-step change false false e r x es fs y p f h = ap (λ z. e.1 ∷ z) (h f)
+set-step change true false e r x es fs y p f h = absurd (let bad : true ≡ false = p in cc)
+set-step change false true e r x es fs y p f h = absurd (let bad : false ≡ true = p in cc)
 
-insert-step : (k next : ℕ) (h g : Held) (o : Ordering) (es fs : List (ℕ × Held)) → Greater ≡ o → rows_of fs ≡ rows_of es ++ row_at next h ∷ [] → rows_of (match_ordering o ((next, h) ∷ (k, g) ∷ es) ((k, h) ∷ es) ((k, g) ∷ fs)) ≡ row_at k g ∷ rows_of es ++ row_at next h ∷ []
-insert-step k next h g Greater es fs q e = ap (λ z. row_at k g ∷ z) e
-insert-step k next h g Less es fs q e = absurd (let bad : Greater ≡ Less = q in cc)
-insert-step k next h g Equal es fs q e = absurd (let bad : Greater ≡ Equal = q in cc)
+pub rows-set : (change : Row → Row) (id : ℕ) (es : List (ℕ × Row)) (r : Row) → AreFiled es → lookup (is_at (nat_cmp id)) es ≡ Some r → changed change id (rows_of es) ≡ rows_of (set_value (is_at (nat_cmp id)) es (change r))
+rows-set change id [] r f h = absurd (let bad : ◌≡◌ {A = Option Row} None (Some r) = h in cc)
+rows-set change id (e ∷ es) r f h = set-step change (e.1.id == id) (is_at (nat_cmp id) e.0) e r _ es _ _ (same-test id e f.0) h (rows-set change id es r f.1)
 
--- a key above all others goes to the end
-pub rows-insert : (low next : ℕ) (h : Held) (es : List (ℕ × Held)) → Rises low (rows_of es) next → rows_of (insert_entry nat_cmp es next h) ≡ rows_of es ++ row_at next h ∷ []
-rows-insert low next h [] r = refl
-rows-insert low next h (e ∷ es) r = let above : e.0 + 1 ≤ next = rises-le (e.0 + 1) (rows_of es) next r.1 in insert-step e.0 next h e.1 (nat_cmp next e.0) es (insert_entry nat_cmp es next h) (nat_cmp_is next e.0 Greater (omega (arith, above))) (rows-insert (e.0 + 1) next h es r.1)
+miss-step : (change : Row → Row) (a b : Bool) (r : Row) (x : Option Row) (rs y : List Row) → a ≡ b → cond b (Some r) x ≡ None → (x ≡ None → y ≡ rs) → (if a then change r ∷ rs else r ∷ y) ≡ r ∷ rs
+miss-step change false false r x rs y p f h = ap (λ z. r ∷ z) (h f)
+miss-step change a true r x rs y p f h = absurd (let bad : ◌≡◌ {A = Option Row} (Some r) None = f in cc)
+miss-step change true false r x rs y p f h = absurd (let bad : true ≡ false = p in cc)
+
+pub rows-miss : (change : Row → Row) (id : ℕ) (es : List (ℕ × Row)) → AreFiled es → lookup (is_at (nat_cmp id)) es ≡ None → changed change id (rows_of es) ≡ rows_of es
+rows-miss change id [] f h = refl
+rows-miss change id (e ∷ es) f h = miss-step change (e.1.id == id) (is_at (nat_cmp id) e.0) e.1 _ (rows_of es) _ (same-test id e f.0) h (rows-miss change id es f.1)
+
+pub filed-set : (id : ℕ) (es : List (ℕ × Row)) (r : Row) → AreFiled es → r.id ≡ id → AreFiled (set_value (is_at (nat_cmp id)) es r)
+filed-set id [] r f h = tt
+filed-set id (e ∷ es) r f h = by (is_at (nat_cmp id) e.0) refl (filed-set id es r f.1 h)
+  where
+    by : (b : Bool) → is_at (nat_cmp id) e.0 ≡ b → AreFiled (set_value (is_at (nat_cmp id)) es r) → AreFiled (cond b ((e.0, r) ∷ es) (e ∷ set_value (is_at (nat_cmp id)) es r))
+    by true t g = (h ∙ grind (arith, nat_tests, t), f.1)
+    by false t g = (f.0, g)
+
+pub filed-insert : (id : ℕ) (r : Row) (es : List (ℕ × Row)) → r.id ≡ id → AreFiled es → AreFiled (insert_entry nat_cmp es id r)
+filed-insert id r [] h f = (h, tt)
+filed-insert id r (e ∷ es) h f = by (nat_cmp id e.0) refl (filed-insert id r es h f.1)
+  where
+    by : (o : Ordering) → o ≡ nat_cmp id e.0 → AreFiled (insert_entry nat_cmp es id r) → AreFiled (match_ordering o ((id, r) ∷ e ∷ es) ((e.0, r) ∷ es) (e ∷ insert_entry nat_cmp es id r))
+    by Less o g = (h, f)
+    by Greater o g = (f.0, g)
+    by Equal o g = (h ∙ grind (arith, nat_tests, o), f.1)

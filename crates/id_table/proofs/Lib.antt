@@ -1,2 +1,5 @@
-pub mod Entries
-pub mod Tables
+mod Entries
+mod Index
+mod Standing
+mod Identifiers
+mod Tables

@@ -1,80 +1,187 @@
 -- What stands of a table stands after each call.
-use Rattle.std.proofs.Common.{◌≡◌, ℕ, ◌+◌, ◌*◌, ◌≤◌, Bool, true, false, ◌==◌, if◌then◌else◌, List, [], ◌∷◌, ◌++◌, arith, ap, sym, subst, ◌∙◌, Some, None}
+use Rattle.std.proofs.Common.{◌≡◌, ℕ, suc, ◌+◌, ◌*◌, ◌≤◌, ◌<◌, max, Bool, true, false, ◌==◌, ◌||◌, not, cond, if◌then◌else◌, List, [], ◌∷◌, length, Option, Some, None, arith, refl, ap, subst, ◌∙◌, sym}
 use Rattle.std.proofs.lemmas.Bool.Decides.{nat_tests}
-use Rattle.std.specs.BTreeMap.{insert_entry, is_at}
-use Rattle.std.specs.Map.{lookup, remove_entry, set_value}
-use Rattle.std.specs.Ordering.{nat_cmp}
-use Rattle.lload_names.specs.declared.names.OpName.{OpName}
-use Rattle.lload_names.specs.declared.names.OpKind.{OpKind}
-use Rattle.id_table.specs.View.{row_at, rows_of}
-use Rattle.id_table.specs.declared.table.Held.{Held}
-use Rattle.id_table.specs.Rows.{Table, IsTable, Rises, without, touched, was_given, gave, used_up, touched_at, ended_at}
+use Rattle.std.proofs.lemmas.Bool.{eq-eqb, eqb-true}
+use Rattle.std.specs.Prelude.{filter, nat_lt}
+use Rattle.std.specs.List.{AllByRecursion}
+use Rattle.lload_spec.specs.Identifiers.{Ids, id_for, with_sent_id, with_own_id, with_freed}
 use Rattle.id_table.specs.declared.row.Row.{Row}
-use Rattle.id_table.proofs.Entries.{rises-le, rows-insert, rows-remove, rows-set, rows-miss, answered}
+use Rattle.id_table.specs.Rows.{row_of, put, without, changed, Rises}
+use Rattle.id_table.specs.Given.{has_id, WasGiven, AreIds}
+use Rattle.id_table.specs.Table.{Table, IsTable, finished_at}
+use Rattle.id_table.proofs.Identifiers.{all-imply, all-push}
+use Rattle.id_table.proofs.Index.{KeepsName, rises-further, rises-without, rises-changed, rises-put, rises-le, none-above, row-put, row-without}
 
-rises-own : (low : ℕ) (rows : List Row) (next : ℕ) → Rises low rows next → Rises low rows (next + 1)
-rises-own low [] next h = omega (arith, h)
-rises-own low (r ∷ rs) next h = (h.0, rises-own (r.id + 1) rs next h.1)
+-- the identifier that an operation gets begins at 1, isn't beyond the next one, and isn't live
+first-given : (next : ℕ) (free : List ℕ) → AreIds (record { next = next; free = free }) → (1 ≤ id_for (record { next = next; free = free })) × (id_for (record { next = next; free = free }) ≤ next)
+first-given next [] a = (a.begins, omega arith)
+first-given next (id ∷ ids) a = (a.given.0.0, omega (arith, a.given.0.1))
 
-rises-give : (low : ℕ) (rows : List Row) (r : Row) → Rises low rows r.id → Rises low (rows ++ r ∷ []) (r.id + 1)
-rises-give low [] r h = (h, omega arith)
-rises-give low (s ∷ rs) r h = (h.0, rises-give (s.id + 1) rs r h.1)
+first-fresh : (next : ℕ) (free : List ℕ) (rows : List Row) → Rises 1 rows next → AllByRecursion (λ id. row_of id rows ≡ None) free → row_of (id_for (record { next = next; free = free })) rows ≡ None
+first-fresh next [] rows h a = none-above next 1 rows next (omega arith) h
+first-fresh next (id ∷ ids) rows h a = a.0
 
-rises-lower : (low high : ℕ) (rows : List Row) (next : ℕ) → low ≤ high → Rises high rows next → Rises low rows next
-rises-lower low high [] next le h = omega (arith, le, h)
-rises-lower low high (r ∷ rs) next le h = (omega (arith, le, h.0), h.1)
+pub fresh : (t : Table) → IsTable t → row_of (id_for t.ids) t.rows ≡ None
+fresh t h = first-fresh t.ids.next t.ids.free t.rows h.rises h.apart
 
-without-step : (low : ℕ) (r : Row) (b : Bool) (rs ss : List Row) (next : ℕ) → low ≤ r.id → Rises (r.id + 1) rs next → Rises (r.id + 1) ss next → Rises low (if b then rs else r ∷ ss) next
-without-step low r true rs ss next le h g = rises-lower low (r.id + 1) rs next (omega (arith, le)) h
-without-step low r false rs ss next le h g = (le, g)
+put-apart : (r : Row) (rows : List Row) (ids : List ℕ) → row_of r.id rows ≡ None → AllByRecursion (λ id. row_of id rows ≡ None) ids → AllByRecursion (λ id. row_of id (put r rows) ≡ None) (filter (λ n. not (n == r.id)) ids)
+put-apart r rows [] none a = tt
+put-apart r rows (id ∷ ids) none a = by (id == r.id) refl (put-apart r rows ids none a.1)
+  where
+    by : (b : Bool) → (id == r.id) ≡ b → AllByRecursion (λ id. row_of id (put r rows) ≡ None) (filter (λ n. not (n == r.id)) ids) → AllByRecursion (λ id. row_of id (put r rows) ≡ None) (cond (not b) (id ∷ filter (λ n. not (n == r.id)) ids) (filter (λ n. not (n == r.id)) ids))
+    by true t h = h
+    by false t h = (row-put r id rows none ∙ ap (λ b. cond b (Some r) (row_of id rows)) (let u : (r.id == id) ≡ false = grind (arith, nat_tests, t) in u) ∙ a.0, h)
 
-rises-without : (id low : ℕ) (rows : List Row) (next : ℕ) → Rises low rows next → Rises low (without id rows) next
-rises-without id low [] next h = h
-rises-without id low (r ∷ rs) next h = without-step low r (r.id == id) rs (without id rs) next h.0 h.1 (rises-without id (r.id + 1) rs next h.1)
+pub table-gave : (t : Table) (r : Row) (rows : List Row) (ids : Ids) → IsTable t → t.ids.next ≤ t.limit → r.id ≡ id_for t.ids → rows ≡ put r t.rows → ids ≡ with_sent_id (id_for t.ids) t.ids → AreIds ids → IsTable (record { rows = rows; ids = ids; limit = t.limit })
+table-gave t r rows ids h room is e f a =
+    let given = first-given t.ids.next t.ids.free h.ids in
+    let none : row_of r.id t.rows ≡ None = ap (λ i. row_of i t.rows) is ∙ fresh t h in
+    let next : ids.next ≡ max t.ids.next (suc (id_for t.ids)) = ap (λ i. i.next) f in
+    let free : ids.free ≡ filter (λ n. not (n == r.id)) t.ids.free = ap (λ i. i.free) f ∙ ap (λ i. filter (λ n. not (n == i)) t.ids.free) (sym is) in
+    record {
+      rises = subst (λ (rs : List Row). Rises 1 rs ids.next) (sym e) (rises-put r 1 t.rows ids.next (omega (arith, is, given.0)) (omega (arith, is, next)) none (rises-further 1 t.rows t.ids.next ids.next (omega (arith, next)) h.rises));
+      ids = a;
+      apart = subst (λ (rs : List Row). AllByRecursion (λ id. row_of id rs ≡ None) ids.free) (sym e) (subst (λ (l : List ℕ). AllByRecursion (λ id. row_of id (put r t.rows) ≡ None) l) (sym free) (put-apart r t.rows t.ids.free none h.apart));
+      least = h.least;
+      most = h.most;
+      fits = omega (arith, next, given.1, room, h.least);
+    }
 
-touched-step : (low now : ℕ) (r : Row) (b : Bool) (rs ss : List Row) (next : ℕ) → low ≤ r.id → Rises (r.id + 1) rs next → Rises (r.id + 1) ss next → Rises low (if b then record r { last = now } ∷ rs else r ∷ ss) next
-touched-step low now r true rs ss next le h g = (le, h)
-touched-step low now r false rs ss next le h g = (le, g)
+pub put-length : (r : Row) (rows : List Row) → length (put r rows) ≡ length rows + 1
+put-length r [] = refl
+put-length r (x ∷ xs) = by (nat_lt r.id x.id) (put-length r xs)
+  where
+    by : (b : Bool) → length (put r xs) ≡ length xs + 1 → length (if b then r ∷ x ∷ xs else x ∷ put r xs) ≡ length (x ∷ xs) + 1
+    by true h = omega arith
+    by false h = omega (arith, h)
 
-rises-touched : (id now low : ℕ) (rows : List Row) (next : ℕ) → Rises low rows next → Rises low (touched id now rows) next
-rises-touched id now low [] next h = h
-rises-touched id now low (r ∷ rs) next h = touched-step low now r (r.id == id) rs (touched id now rs) next h.0 h.1 (rises-touched id now (r.id + 1) rs next h.1)
+pub table-own : (t : Table) (ids : Ids) → IsTable t → t.ids.next ≤ 2 * t.limit → ids ≡ with_own_id t.ids.next t.ids → AreIds ids → IsTable (record { rows = t.rows; ids = ids; limit = t.limit })
+table-own t ids h room f a =
+    let next : ids.next ≡ max t.ids.next (suc t.ids.next) = ap (λ i. i.next) f in
+    record {
+      rises = rises-further 1 t.rows t.ids.next ids.next (omega (arith, next)) h.rises;
+      ids = a;
+      apart = subst (λ (l : List ℕ). AllByRecursion (λ id. row_of id t.rows ≡ None) l) (sym (ap (λ i. i.free) f)) h.apart;
+      least = h.least;
+      most = h.most;
+      fits = omega (arith, next, room);
+    }
 
-pub table-own : (t v : Table) → t ≡ v → IsTable t → v.next ≤ 2 * v.limit → IsTable (used_up t)
-table-own t v e h room = let n : t.next ≡ v.next = ap (λ x. x.next) e in let l : t.limit ≡ v.limit = ap (λ x. x.limit) e in record { rises = rises-own 1 t.rows t.next h.rises; least = h.least; most = h.most; fits = omega (arith, room, n, l) }
+none-changed : (change : Row → Row) (at id : ℕ) (rows : List Row) → KeepsName change → row_of id rows ≡ None → row_of id (changed change at rows) ≡ None
+none-changed change at id [] k h = refl
+none-changed change at id (r ∷ rs) k h = by (r.id == at) (r.id == id) refl h (none-changed change at id rs k)
+  where
+    by : (a b : Bool) → (r.id == id) ≡ b → (if b then Some r else row_of id rs) ≡ None → (row_of id rs ≡ None → row_of id (changed change at rs) ≡ None) → row_of id (if a then change r ∷ rs else r ∷ changed change at rs) ≡ None
+    by a true t n ih = absurd (let bad : ◌≡◌ {A = Option Row} (Some r) None = n in cc)
+    by true false t n ih = ap (λ b. cond b (Some (change r)) (row_of id rs)) (ap (λ i. i == id) (k.id r) ∙ t) ∙ n
+    by false false t n ih = ap (λ b. cond b (Some r) (row_of id (changed change at rs))) t ∙ ih n
 
--- a table over the entries of a map
-abbrev pub over : List (ℕ × Held) → ℕ → ℕ → Table
-over es next limit = record { rows = rows_of es; next = next; limit = limit }
+pub table-changed : (change : Row → Row) (id : ℕ) (t : Table) (rows : List Row) → KeepsName change → IsTable t → rows ≡ changed change id t.rows → IsTable (record { rows = rows; ids = t.ids; limit = t.limit })
+table-changed change id t rows k h e = subst (λ (rs : List Row). IsTable (record { rows = rs; ids = t.ids; limit = t.limit })) (sym e) (record {
+  rises = rises-changed change id 1 t.rows t.ids.next k h.rises;
+  ids = h.ids;
+  apart = all-imply (λ i. row_of i t.rows ≡ None) (λ i. row_of i (changed change id t.rows) ≡ None) t.ids.free (λ i. none-changed change id i t.rows k) h.apart;
+  least = h.least;
+  most = h.most;
+  fits = h.fits;
+})
 
--- what is held of an operation that is sent at a moment
-abbrev pub sent_now : OpName → OpKind → ℕ → Held
-sent_now op kind now = record { op = op; kind = kind; sent = now; last = now }
+pub changed-length : (change : Row → Row) (id : ℕ) (rows : List Row) → length (changed change id rows) ≡ length rows
+changed-length change id [] = refl
+changed-length change id (r ∷ rs) = by (r.id == id) (changed-length change id rs)
+  where
+    by : (b : Bool) → length (changed change id rs) ≡ length rs → length (if b then change r ∷ rs else r ∷ changed change id rs) ≡ suc (length rs)
+    by true h = refl
+    by false h = ap suc h
 
--- an entry is put into the map under the next identifier
-pub entered : (op : OpName) (kind : OpKind) (now : ℕ) (es fs : List (ℕ × Held)) (next limit : ℕ) → IsTable (over es next limit) → fs ≡ insert_entry nat_cmp es next (sent_now op kind now) → over fs (next + 1) limit ≡ gave op kind now (over es next limit)
-entered op kind now es fs next limit t e = ap (λ z. record { rows = z; next = next + 1; limit = limit }) (ap rows_of e ∙ rows-insert 1 next (sent_now op kind now) es t.rises)
+none-without : (gone id : ℕ) (rows : List Row) (next : ℕ) → Rises 1 rows next → row_of id rows ≡ None → row_of id (without gone rows) ≡ None
+none-without gone id rows next h n = row-without gone id 1 rows next h ∙ by (gone == id)
+  where
+    by : (b : Bool) → (if b then None else row_of id rows) ≡ None
+    by true = refl
+    by false = n
 
-pub entered-table : (op : OpName) (kind : OpKind) (now : ℕ) (es fs : List (ℕ × Held)) (next limit : ℕ) (v : Table) → over es next limit ≡ v → IsTable (over es next limit) → v.next ≤ v.limit → fs ≡ insert_entry nat_cmp es next (sent_now op kind now) → IsTable (over fs (next + 1) limit)
-entered-table op kind now es fs next limit v same t room e = let n : next ≡ v.next = ap (λ x. x.next) same in let l : limit ≡ v.limit = ap (λ x. x.limit) same in subst IsTable (sym (entered op kind now es fs next limit t e)) (record { rises = rises-give 1 (rows_of es) (row_at next (sent_now op kind now)) t.rises; least = t.least; most = t.most; fits = omega (arith, room, n, l) })
+pub table-ended : (id : ℕ) (t : Table) (rows : List Row) → IsTable t → rows ≡ without id t.rows → IsTable (record { rows = rows; ids = t.ids; limit = t.limit })
+table-ended id t rows h e = subst (λ (rs : List Row). IsTable (record { rows = rs; ids = t.ids; limit = t.limit })) (sym e) (record {
+  rises = rises-without id 1 t.rows t.ids.next h.rises;
+  ids = h.ids;
+  apart = all-imply (λ i. row_of i t.rows ≡ None) (λ i. row_of i (without id t.rows) ≡ None) t.ids.free (λ i. none-without id i t.rows t.ids.next h.rises) h.apart;
+  least = h.least;
+  most = h.most;
+  fits = h.fits;
+})
 
--- the entry of an identifier is taken out of the map
-pub removed : (id : ℕ) (es fs : List (ℕ × Held)) (next limit : ℕ) → fs ≡ remove_entry (is_at (nat_cmp id)) es → over fs next limit ≡ ended_at id (over es next limit)
-removed id es fs next limit e = ap (λ z. record { rows = z; next = next; limit = limit }) (ap rows_of e ∙ sym (rows-remove id es))
+pub without-length : (id : ℕ) (rows : List Row) → length (without id rows) ≤ length rows
+without-length id [] = omega arith
+without-length id (r ∷ rs) = by (r.id == id) (without-length id rs)
+  where
+    by : (b : Bool) → length (without id rs) ≤ length rs → length (if b then rs else r ∷ without id rs) ≤ suc (length rs)
+    by true h = omega arith
+    by false h = omega (arith, h)
 
-pub removed-table : (id : ℕ) (es fs : List (ℕ × Held)) (next limit : ℕ) → IsTable (over es next limit) → fs ≡ remove_entry (is_at (nat_cmp id)) es → IsTable (over fs next limit)
-removed-table id es fs next limit t e = subst IsTable (sym (removed id es fs next limit e)) (record { rises = rises-without id 1 (rows_of es) next t.rises; least = t.least; most = t.most; fits = t.fits })
+pub taken-length : (id : ℕ) (rows : List Row) (r : Row) → row_of id rows ≡ Some r → length (without id rows) + 1 ≡ length rows
+taken-length id [] r e = absurd (let bad : ◌≡◌ {A = Option Row} None (Some r) = e in cc)
+taken-length id (x ∷ rs) r e = by (x.id == id) e (taken-length id rs r)
+  where
+    by : (b : Bool) → (if b then Some x else row_of id rs) ≡ Some r → (row_of id rs ≡ Some r → length (without id rs) + 1 ≡ length rs) → length (if b then rs else x ∷ without id rs) + 1 ≡ suc (length rs)
+    by true f ih = omega arith
+    by false f ih = let g = ih f in omega (arith, g)
 
--- a moment is written to what is held under an identifier
-pub written : (id now : ℕ) (es fs : List (ℕ × Held)) (h : Held) (next limit : ℕ) → lookup (is_at (nat_cmp id)) es ≡ Some h → fs ≡ set_value (is_at (nat_cmp id)) es (answered now h) → over fs next limit ≡ touched_at id now (over es next limit)
-written id now es fs h next limit f e = ap (λ z. record { rows = z; next = next; limit = limit }) (ap rows_of e ∙ sym (rows-set id now es h f))
+-- a live identifier was given, and isn't free
+live-given : (id low : ℕ) (rows : List Row) (next : ℕ) (r : Row) → Rises low rows next → row_of id rows ≡ Some r → (low ≤ id) × (id < next)
+live-given id low [] next r h e = absurd (let bad : ◌≡◌ {A = Option Row} None (Some r) = e in cc)
+live-given id low (x ∷ rs) next r h e = by (x.id == id) refl e (live-given id (x.id + 1) rs next r h.1)
+  where
+    by : (b : Bool) → (x.id == id) ≡ b → (if b then Some x else row_of id rs) ≡ Some r → (row_of id rs ≡ Some r → (x.id + 1 ≤ id) × (id < next)) → (low ≤ id) × (id < next)
+    by true t f ih = let same = eqb-true x.id id t in let up = rises-le (x.id + 1) rs next h.1 in (omega (arith, same, h.0), omega (arith, same, up))
+    by false t f ih = let g = ih f in (omega (arith, g.0, h.0), g.1)
 
-pub not-written : (id now : ℕ) (es fs : List (ℕ × Held)) (next limit : ℕ) → lookup (is_at (nat_cmp id)) es ≡ None → fs ≡ es → over fs next limit ≡ touched_at id now (over es next limit)
-not-written id now es fs next limit f e = ap (λ z. record { rows = z; next = next; limit = limit }) (ap rows_of e ∙ sym (rows-miss id now es f))
+pub was-given : (t : Table) (id : ℕ) (r : Row) → IsTable t → row_of id t.rows ≡ Some r → WasGiven t.ids.next id
+was-given t id r h e = live-given id 1 t.rows t.ids.next r h.rises e
 
-pub touched-table : (id now : ℕ) (t u : Table) → IsTable t → u ≡ touched_at id now t → IsTable u
-touched-table id now t u h e = subst IsTable (sym e) (record { rises = rises-touched id now 1 t.rows t.next h.rises; least = h.least; most = h.most; fits = h.fits })
+live-apart : (id : ℕ) (rows : List Row) (r : Row) (ids : List ℕ) → row_of id rows ≡ Some r → AllByRecursion (λ i. row_of i rows ≡ None) ids → has_id id ids ≡ false
+live-apart id rows r [] e a = refl
+live-apart id rows r (x ∷ xs) e a = by (x == id) refl (live-apart id rows r xs e a.1)
+  where
+    by : (b : Bool) → (x == id) ≡ b → has_id id xs ≡ false → (b || has_id id xs) ≡ false
+    by true t h = absurd (let bad : ◌≡◌ {A = Option Row} None (Some r) = sym a.0 ∙ (ap (λ i. row_of i rows) (eqb-true x id t) ∙ e) in cc)
+    by false t h = h
 
--- the next identifier wasn't given, and is given once the next one is above it
-pub next-fresh : (t v : Table) → t ≡ v → IsTable t → (was_given v.next t.next ≡ false) × (was_given (t.next + 1) t.next ≡ true)
-next-fresh t v same h = let low : 1 ≤ t.next = rises-le 1 t.rows t.next h.rises in let n : t.next ≡ v.next = ap (λ x. x.next) same in (grind (arith, nat_tests, n), grind (arith, nat_tests, low))
+pub not-free : (t : Table) (id : ℕ) (r : Row) → IsTable t → row_of id t.rows ≡ Some r → has_id id t.ids.free ≡ false
+not-free t id r h e = live-apart id t.rows r t.ids.free e h.apart
+
+pub table-finished : (id : ℕ) (t : Table) (rows : List Row) (ids : Ids) → IsTable t → rows ≡ without id t.rows → ids ≡ with_freed (id ∷ []) t.ids → AreIds ids → IsTable (record { rows = rows; ids = ids; limit = t.limit })
+table-finished id t rows ids h e f a =
+    let ended = table-ended id t rows h e in
+    let gone : row_of id rows ≡ None = ap (row_of id) e ∙ row-without id id 1 t.rows t.ids.next h.rises ∙ ap (λ b. if b then None else row_of id t.rows) (eq-eqb id id refl) in
+    let next : t.ids.next ≡ ids.next = sym (ap (λ i. i.next) f) in
+    record {
+      rises = subst (λ (n : ℕ). Rises 1 rows n) next ended.rises;
+      ids = a;
+      apart = subst (λ (l : List ℕ). AllByRecursion (λ i. row_of i rows ≡ None) l) (sym (ap (λ i. i.free) f)) (all-push (λ i. row_of i rows ≡ None) t.ids.free id ended.apart gone);
+      least = h.least;
+      most = h.most;
+      fits = let n = next in let m = h.fits in omega (arith, n, m);
+    }
+
+-- what is finished, by whether the identifier is live
+pub finished-none : (id : ℕ) (t : Table) → row_of id t.rows ≡ None → t ≡ finished_at id t
+finished-none id t e = ap (λ o. elim o [ None ↦ t | Some r ↦ record t { rows = without id t.rows; ids = with_freed (id ∷ []) t.ids } ]) (sym e)
+
+pub finished-some : (id : ℕ) (t : Table) (r : Row) → row_of id t.rows ≡ Some r → record t { rows = without id t.rows; ids = with_freed (id ∷ []) t.ids } ≡ finished_at id t
+finished-some id t r e = ap (λ o. elim o [ None ↦ t | Some r ↦ record t { rows = without id t.rows; ids = with_freed (id ∷ []) t.ids } ]) (sym e)
+
+-- where no row has the identifier, none goes
+pub none-gone : (id : ℕ) (rows : List Row) → row_of id rows ≡ None → without id rows ≡ rows
+none-gone id [] e = refl
+none-gone id (r ∷ rs) e = by (r.id == id) e (none-gone id rs)
+  where
+    by : (b : Bool) → (if b then Some r else row_of id rs) ≡ None → (row_of id rs ≡ None → without id rs ≡ rs) → (if b then rs else r ∷ without id rs) ≡ r ∷ rs
+    by true f ih = absurd (let bad : ◌≡◌ {A = Option Row} (Some r) None = f in cc)
+    by false f ih = ap (λ l. r ∷ l) (ih f)
+
+pub same-room : (t v : Table) → t ≡ v → v.ids.next ≤ 2 * v.limit → t.ids.next ≤ 2 * t.limit
+same-room t v e h = subst (λ (x : Table). x.ids.next ≤ 2 * x.limit) (sym e) h
+
+pub same-limit : (t v : Table) → t ≡ v → v.ids.next ≤ v.limit → t.ids.next ≤ t.limit
+same-limit t v e h = subst (λ (x : Table). x.ids.next ≤ x.limit) (sym e) h

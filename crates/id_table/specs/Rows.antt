@@ -1,18 +1,10 @@
-use Rattle.std.specs.Prelude.{ℕ, Bool, ◌&&◌, ◌==◌, ◌+◌, ◌*◌, ◌≤◌, List, [], ◌∷◌, ◌++◌, Option, Some, None, if◌then◌else◌, nat_lt, nat_le}
+-- The live rows of a connection, by rising identifier.
+use Rattle.std.specs.Prelude.{ℕ, Bool, false, ◌==◌, ◌+◌, ◌≤◌, List, [], ◌∷◌, Option, Some, None, if◌then◌else◌, nat_lt}
 use Rattle.lload_names.specs.declared.names.OpName.{OpName}
 use Rattle.lload_names.specs.declared.names.OpKind.{OpKind}
 use Rattle.lload_names.specs.Same.{same_op}
 use Rattle.id_table.specs.declared.row.Row.{Row}
-
--- the live rows by rising identifier, the next identifier, and the limit at which the connection retires
-pub record Table : Type 0 where
-  pub rows : List Row
-  pub next : ℕ
-  pub limit : ℕ
-
--- a table from which nothing was given
-abbrev pub empty : ℕ → Table
-empty limit = record { rows = []; next = 1; limit = limit }
+use Rattle.id_table.specs.declared.row.Kept.{Kept}
 
 -- the row of an identifier
 abbrev pub row_of : ℕ → List Row → Option Row
@@ -24,49 +16,40 @@ abbrev pub id_of : OpName → List Row → Option ℕ
 id_of op [] = None
 id_of op (r ∷ rs) = if same_op r.op op then Some r.id else id_of op rs
 
+-- the rows with one more, at its place in the order
+abbrev pub put : Row → List Row → List Row
+put r [] = r ∷ []
+put r (x ∷ xs) = if nat_lt r.id x.id then r ∷ x ∷ xs else x ∷ put r xs
+
 -- the rows without that of the identifier
 abbrev pub without : ℕ → List Row → List Row
 without id [] = []
 without id (r ∷ rs) = if r.id == id then rs else r ∷ without id rs
 
--- the rows, where that of the identifier was answered at a moment
-abbrev pub touched : ℕ → ℕ → List Row → List Row
-touched id now [] = []
-touched id now (r ∷ rs) = if r.id == id then record r { last = now } ∷ rs else r ∷ touched id now rs
+-- the rows, of which that of the identifier was changed
+abbrev pub changed : (Row → Row) → ℕ → List Row → List Row
+changed change id [] = []
+changed change id (r ∷ rs) = if r.id == id then change r ∷ rs else r ∷ changed change id rs
+
+-- the row of an operation that is sent at a moment
+abbrev pub sent_row : ℕ → OpName → OpKind → Bool → ℕ → Row
+sent_row id op kind ask_who now =
+    record { id = id; op = op; kind = kind; ask_who = ask_who; sent = now; last = now; kept = None }
+
+-- a row whose operation was answered at a moment
+abbrev pub answered : ℕ → Row → Row
+answered now r = record r { last = now }
+
+-- a row whose operation was answered at a moment, where the answer is kept back
+abbrev pub kept_back : ℕ → Kept → Row → Row
+kept_back now kept r = record r { last = now; kept = Some kept }
 
 -- the identifiers rise from `low`, and all are below `next`
 abbrev pub Rises : ℕ → List Row → ℕ → Type 0
 Rises low [] next = low ≤ next
 Rises low (r ∷ rs) next = (low ≤ r.id) × Rises (r.id + 1) rs next
 
--- whether an identifier was given, where `next` is the next one: they are given from 1 on, each once
-abbrev pub was_given : ℕ → ℕ → Bool
-was_given next id = nat_le 1 id && nat_lt id next
-
--- whether an identifier equal to the limit or above was given
-abbrev pub passes_limit : Table → Bool
-passes_limit t = nat_lt t.limit t.next
-
--- what stands of each table: identifiers rise, and messages of the proxy's own go up to twice the limit
-pub record IsTable (t : Table) : Type 0 where
-  pub rises : Rises 1 t.rows t.next
-  pub least : 2 ≤ t.limit
-  pub most : t.limit ≤ 1073741823
-  pub fits : t.next ≤ 2 * t.limit + 1
-
--- the table, after the next identifier was given to an operation that was sent at a moment
-abbrev pub gave : OpName → OpKind → ℕ → Table → Table
-gave op kind now t =
-    record t { rows = t.rows ++ record { id = t.next; op = op; kind = kind; sent = now; last = now } ∷ []; next = t.next + 1 }
-
--- the table, after the next identifier was given to a message of the proxy's own
-abbrev pub used_up : Table → Table
-used_up t = record t { next = t.next + 1 }
-
--- the table, after the operation of the identifier was answered at a moment
-abbrev pub touched_at : ℕ → ℕ → Table → Table
-touched_at id now t = record t { rows = touched id now t.rows }
-
--- the table, after the row of the identifier was taken out
-abbrev pub ended_at : ℕ → Table → Table
-ended_at id t = record t { rows = without id t.rows }
+-- whether a row is there and has the operation
+abbrev pub has_op : OpName → Option Row → Bool
+has_op op None = false
+has_op op (Some r) = same_op r.op op

@@ -1,113 +1,102 @@
-ghost use Rattle.std.specs.Prelude.{◌≡◌, ◌≤◌, ◌<◌, ◌*◌, [], true, false, IfOk, OnOk, OnErr};
-ghost use Rattle.id_table.specs.Rows.{row_of, id_of, was_given, gave, used_up, touched_at, ended_at, passes_limit, empty, IsTable};
+ghost use Rattle.std.specs.Prelude.{◌≡◌, ◌≤◌, ◌*◌, None, Ok, IfOk, OnOk, OnErr};
+ghost use Rattle.std.specs.Option.{option_copied};
+ghost use Rattle.lload_spec.specs.Identifiers.{id_for};
+ghost use Rattle.id_table.specs.Rows.{row_of, id_of};
+ghost use Rattle.id_table.specs.Table.{empty, gave, used_up, touched_at, kept_at, ended_at, finished_at, passes_limit, IsTable};
 
-use crate::row::Row;
+use crate::given::GivenIds;
+use crate::live::LiveRows;
+use crate::row::{Kept, Row};
 use lload_names::{NoMemory, OpKind, OpName};
 use std::alloc::Global;
-use std::collections::BTreeMap;
 use std::marker::Model;
 
-/// A row without its identifier, which is its key.
-#[derive(Drop)]
-struct Held {
-    op: OpName,
-    kind: OpKind,
-    sent: u64,
-    last: u64,
-}
-
-impl Held {
-    fn under(&self, id: u32) -> Row
-        ensures { result ≡ record { id = id; op = self.now.op; kind = self.now.kind; sent = self.now.sent; last = self.now.last } }
-    {
-        Row {
-            id,
-            op: self.op,
-            kind: self.kind,
-            sent: self.sent,
-            last: self.last,
-        }
-    }
-}
-
-/// The live rows of a connection by rising identifier, the next identifier and the limit at which the connection
-/// retires.
+/// The live rows of a connection by rising identifier, its identifiers, and the limit at which it retires. Each call
+/// costs the logarithm of the live rows at most.
 #[derive(Drop)]
 pub struct IdTable {
-    rows: BTreeMap<u32, Held>,
-    next: u32,
+    live: LiveRows,
+    ids: GivenIds,
     limit: u32,
 }
 
 impl Model for IdTable {
-    ghost use Rattle.id_table.specs.Rows.{Table, IsTable};
+    ghost use Rattle.id_table.specs.Table.{Table, IsTable};
 
     ghost Value = { Table };
 
-    ghost use Rattle.id_table.specs.View.{rows_of};
+    ghost use Rattle.std.specs.Prelude.{◌≤◌, length};
 
-    ghost view = { λ t. record { rows = rows_of t.rows.entries; next = t.next; limit = t.limit } };
+    ghost view = { λ t. record { rows = t.live; ids = t.ids.ids; limit = t.limit } };
 
-    ghost invariant = { λ t. IsTable (record { rows = rows_of t.rows.entries; next = t.next; limit = t.limit }) };
+    ghost invariant = { λ t. IsTable (record { rows = t.live; ids = t.ids.ids; limit = t.limit }) × (length t.live ≤ t.ids.spare) };
 }
 
 impl IdTable {
-    /// A table without rows whose first identifier is 1. Identifiers from `limit` on retire the connection.
+    /// A table without rows whose first identifier is 1. Identifiers from `limit` on retire the connection. It takes
+    /// no memory.
     pub fn new(alloc: Global, limit: u32) -> Result<IdTable, NoMemory>
         requires least { 2 ≤ limit }
         requires most { limit ≤ 1073741823 }
-        ensures empty { IfOk result (λ t. t ≡ empty limit) }
+        ensures empty { result ≡ Ok (empty limit) }
         ensures table { IfOk result (λ t. IsTable t) }
     {
         Ok(IdTable {
-            rows: BTreeMap::new(alloc),
-            next: 1,
+            live: LiveRows::new(alloc),
+            ids: GivenIds::new(alloc),
             limit,
         })
     }
 
-    /// Gives the next identifier to an operation that is sent at the moment `now`, and keeps a row for it. For want
-    /// of memory no identifier is given and nothing changes.
-    pub fn give(&mut self, op: OpName, kind: OpKind, now: u64) -> Result<u32, NoMemory>
-        requires { self.old.next ≤ self.old.limit }
-        ensures next { IfOk result (λ id. id ≡ self.old.next) }
-        ensures once { IfOk result (λ id. (was_given self.old.next id ≡ false) × (was_given self.new.next id ≡ true)) }
-        ensures gave { OnOk result (self.new ≡ gave op kind now self.old) }
+    /// Gives an identifier to an operation that is sent at the moment `now`, and keeps a row for it: the identifier that
+    /// was freed first, else the next one. For want of memory no identifier is given and nothing changes.
+    pub fn give(
+        &mut self,
+        op: OpName,
+        kind: OpKind,
+        ask_who: bool,
+        now: u64,
+    ) -> Result<u32, NoMemory>
+        requires { self.old.ids.next ≤ self.old.limit }
+        ensures id { IfOk result (λ id. id ≡ id_for self.old.ids) }
+        ensures fresh { IfOk result (λ id. row_of id self.old.rows ≡ None) }
+        ensures gave { OnOk result (self.new ≡ gave op kind ask_who now self.old) }
         ensures err { OnErr result (self.new ≡ self.old) }
         ensures table { IsTable self.new }
     {
-        let id = self.next;
-        let held = Held {
+        self.ids.reserve(self.live.len() + 1)?;
+        let id = self.ids.first();
+        self.live.put(Row {
+            id,
             op,
             kind,
+            ask_who,
             sent: now,
             last: now,
-        };
-        self.rows.insert(id, held)?;
-        self.next += 1;
+            kept: None,
+        })?;
+        self.ids.use_first();
         Ok(id)
     }
 
     /// Gives the next identifier to a message of the proxy's own, which has no row. It takes no memory.
     pub fn own(&mut self) -> u32
-        requires { self.old.next ≤ 2 * self.old.limit }
-        ensures next { result ≡ self.old.next }
-        ensures once { (was_given self.old.next result ≡ false) × (was_given self.new.next result ≡ true) }
+        requires { self.old.ids.next ≤ 2 * self.old.limit }
+        ensures next { result ≡ self.old.ids.next }
         ensures used { self.new ≡ used_up self.old }
         ensures table { IsTable self.new }
     {
-        let id = self.next;
-        self.next += 1;
+        let id = self.ids.next();
+        self.ids.use_next();
         id
     }
 
     /// The row of an identifier; `None` exactly where it isn't live. It takes no memory.
-    pub fn row(&self, id: u32) -> Option<Row>
-        ensures row { result ≡ row_of id self.now.rows }
+    pub fn row(&self, id: u32) -> Option<&Row>
+        ensures row { option_copied result ≡ row_of id self.now.rows }
         ensures table { IsTable self.now }
     {
-        let held = self.rows.get(&id)?;
-        Some(held.under(id))
+        self.live.row(id)
     }
 
     /// The lowest identifier whose live row has this operation; `None` exactly where no live row has it. It takes no
@@ -116,12 +105,7 @@ impl IdTable {
         ensures lowest { result ≡ id_of op self.now.rows }
         ensures table { IsTable self.now }
     {
-        for (id, held) in self.rows.iter() {
-            if held.op == op {
-                return Some(*id);
-            }
-        }
-        None
+        self.live.find(op)
     }
 
     /// Notes that the operation of this identifier was answered at the moment `now`. Where no such row is live,
@@ -130,9 +114,16 @@ impl IdTable {
         ensures touched { self.new ≡ touched_at id now self.old }
         ensures table { IsTable self.new }
     {
-        if let Some(held) = self.rows.get_mut(&id) {
-            held.last = now;
-        }
+        self.live.touch(id, now);
+    }
+
+    /// Notes that the operation of this identifier was answered at the moment `now`, and keeps the answer back. Where
+    /// no such row is live, nothing changes. It takes no memory.
+    pub fn keep(&mut self, id: u32, now: u64, kept: Kept)
+        ensures kept { self.new ≡ kept_at id now kept self.old }
+        ensures table { IsTable self.new }
+    {
+        self.live.keep(id, now, kept);
     }
 
     /// Takes out the row of an identifier, and hands it out; `None` exactly where it isn't live, and then nothing
@@ -142,8 +133,20 @@ impl IdTable {
         ensures ended { self.new ≡ ended_at id self.old }
         ensures table { IsTable self.new }
     {
-        let held = self.rows.remove(&id)?;
-        Some(held.under(id))
+        self.live.take(id)
+    }
+
+    /// Takes out the row of an identifier whose operation was answered to the end, hands it out, and frees the
+    /// identifier, behind those that were freed before; `None` exactly where it isn't live, and then nothing changes. It
+    /// takes no memory.
+    pub fn finish(&mut self, id: u32) -> Option<Row>
+        ensures row { result ≡ row_of id self.old.rows }
+        ensures finished { self.new ≡ finished_at id self.old }
+        ensures table { IsTable self.new }
+    {
+        let row = self.live.take(id)?;
+        self.ids.free(id);
+        Some(row)
     }
 
     /// Whether an identifier equal to the limit or above was given. Where it wasn't, one may be given to an
@@ -151,6 +154,6 @@ impl IdTable {
     pub fn at_limit(&self) -> bool
         ensures { result ≡ passes_limit self.now }
     {
-        self.next > self.limit
+        self.ids.next() > self.limit
     }
 }

@@ -1,7 +1,7 @@
-ghost use Rattle.std.specs.Prelude.{◌≡◌, [], OnOk, OnErr};
+ghost use Rattle.std.specs.Prelude.{◌≡◌, [], IsSome, IsOk, OnOk, OnErr};
 ghost use Rattle.std.specs.Ordering.{nat_cmp};
 ghost use Rattle.std.specs.BTreeMap.{insert_entry, is_at};
-ghost use Rattle.std.specs.Map.{remove_entry, set_value};
+ghost use Rattle.std.specs.Map.{lookup, remove_entry, set_value};
 ghost use Rattle.op_deadlines.specs.Due.{is_due, lowest_due};
 
 use lload_names::NoMemory;
@@ -36,10 +36,12 @@ impl Deadlines {
         }
     }
 
-    /// The identifier waits from the moment `now` on, in milliseconds. For want of memory nothing changes.
+    /// The identifier waits from the moment `now` on, in milliseconds. For want of memory nothing changes;
+    /// for an identifier that waits already none is wanted.
     pub fn start(&mut self, id: u32, now: u64) -> Result<(), NoMemory>
         ensures started { OnOk result (self.new ≡ record { timeout = self.old.timeout; moments = insert_entry nat_cmp self.old.moments id now }) }
         ensures err { OnErr result (self.new ≡ self.old) }
+        ensures no_memory { IsSome (lookup (is_at (nat_cmp id)) self.old.moments) → IsOk result }
     {
         self.moments.insert(id, now)?;
         Ok(())

@@ -12,3 +12,19 @@ fn an_answer_puts_the_deadline_off(rt: HostRuntime) -> Result<(), Fail> {
     assert_eq!(rt; deadlines.first_due(50000), None);
     Ok(())
 }
+
+#[test]
+fn a_thousand_identifiers_are_due_in_their_order(rt: HostRuntime) -> Result<(), Fail> {
+    let mut deadlines = Deadlines::new(rt.alloc(), 1);
+    for id in 1..1001 {
+        deadlines.start(id, 0)?;
+        deadlines.start(id, 1)?;
+    }
+    assert_eq!(rt; deadlines.first_due(1000), None);
+    for id in 1..1001 {
+        assert_eq!(rt; deadlines.first_due(1001), Some(id));
+        deadlines.stop(id);
+    }
+    assert_eq!(rt; deadlines.first_due(1001), None);
+    Ok(())
+}

@@ -1,13 +1,14 @@
-//! How fast a connection's table of live operations is: rows are found, and ended and given, with many rows live.
+//! How fast a connection's table of live operations and its deadlines are, with many of them live.
 //!
-//! With no argument it fills a table, ends each row and gives another, and prints how many there were. With the
-//! argument `measure` it prints the nanoseconds of these calls with 1,000, 10,000 and 100,000 live rows, for rows in
+//! With no argument it fills a table, ends each row, finishes each and gives others, and prints how many there were. With
+//! the argument `measure` it prints the nanoseconds of each call with 1,000, 10,000 and 100,000 live rows, for rows in
 //! their order and for rows that are drawn, most of which no cache of the processor holds where there are many.
 #![tactic(auto)]
 
 use anyhow::{Result, bail};
 use id_table::IdTable;
 use lload_names::{OpKind, OpName};
+use op_deadlines::Deadlines;
 use std::alloc::Global;
 use std::env;
 use std::rt::Clock;
@@ -23,22 +24,45 @@ enum Order {
     Drawn,
 }
 
-/// A table with live rows, their identifiers, the place that comes next in order, and a number by which one is drawn.
+/// A call on a table, or two that make one row of another.
+#[derive(Clone, Copy, Drop)]
+enum Call {
+    Row,
+    Find,
+    Touch,
+    EndAndGive,
+    FinishAndGive,
+}
+
+/// A live row: its identifier and the number of its operation.
+#[derive(Clone, Copy, Drop)]
+struct Live {
+    id: u32,
+    k: u64,
+}
+
+/// A table with live rows, the deadlines of these, the place that comes next in order, and a number by which one is
+/// drawn.
 #[derive(Drop)]
 struct Filled {
     table: IdTable,
-    ids: Vec<u32>,
+    deadlines: Deadlines,
+    rows: Vec<Live>,
     place: usize,
     random: u64,
 }
 
-/// Gives the next identifier to an operation.
-fn give(table: &mut IdTable, k: u64) -> Result<u32> {
+fn op(k: u64) -> OpName {
+    OpName { client: 1, k }
+}
+
+/// Gives an identifier to an operation.
+fn give(table: &mut IdTable, k: u64) -> Result<Live> {
     if table.at_limit() {
         bail!("no identifier is left");
     }
-    match table.give(OpName { client: 1, k }, OpKind::Search, k) {
-        Ok(id) => Ok(id),
+    match table.give(op(k), OpKind::Search, false, k) {
+        Ok(id) => Ok(Live { id, k }),
         Err(_) => bail!("no memory for a row"),
     }
 }
@@ -48,21 +72,27 @@ impl Filled {
         let Ok(mut table) = IdTable::new(alloc, 1_073_741_823) else {
             bail!("no memory for a table");
         };
-        let mut ids = Vec::new(alloc);
+        let mut deadlines = Deadlines::new(alloc, 30);
+        let mut rows = Vec::new(alloc);
         for k in 0..count {
-            ids.push(give(&mut table, k as u64)?)?;
+            let live = give(&mut table, k as u64)?;
+            if deadlines.start(live.id, k as u64).is_err() {
+                bail!("no memory for a deadline");
+            }
+            rows.push(live)?;
         }
         Ok(Filled {
             table,
-            ids,
+            deadlines,
+            rows,
             place: 0,
             random: 1,
         })
     }
 
-    /// The next place among the identifiers; one is drawn by a linear congruence of 64 bits.
+    /// The next place among the rows; one is drawn by a linear congruence of 64 bits.
     fn next_place(&mut self, order: Order) -> usize {
-        let count = self.ids.len().max(1);
+        let count = self.rows.len().max(1);
         match order {
             Order::Oldest => {
                 let place = self.place % count;
@@ -79,33 +109,57 @@ impl Filled {
         }
     }
 
-    /// Finds a row so many times, and says how often it was there.
-    fn find_rows(&mut self, order: Order, times: u32) -> u32 {
+    /// Makes a call for a row, and says whether the row was there.
+    fn call(&mut self, call: Call, place: usize, k: u64) -> Result<bool> {
+        let Some(live) = self.rows.get_mut(place) else {
+            return Ok(false);
+        };
+        let found = match call {
+            Call::Row => self.table.row(live.id).is_some(),
+            Call::Find => self.table.find(op(live.k)).is_some(),
+            Call::Touch => {
+                self.table.touch(live.id, k);
+                true
+            }
+            Call::EndAndGive => {
+                let found = self.table.end(live.id).is_some();
+                *live = give(&mut self.table, k)?;
+                found
+            }
+            Call::FinishAndGive => {
+                let found = self.table.finish(live.id).is_some();
+                *live = give(&mut self.table, k)?;
+                found
+            }
+        };
+        Ok(found)
+    }
+
+    /// Makes a call so many times, and says how often the row was there.
+    fn calls(&mut self, call: Call, order: Order, times: u32) -> Result<u32> {
         let mut found = 0u32;
-        for _ in 0..times {
+        for k in 0..times {
             let place = self.next_place(order);
-            if let Some(id) = self.ids.get(place)
-                && self.table.row(*id).is_some()
-            {
+            if self.call(call, place, k as u64)? {
                 found = found.saturating_add(1);
             }
         }
-        found
+        Ok(found)
     }
 
-    /// Ends a row and gives another so many times, and says how often the row was there.
-    fn replace_rows(&mut self, order: Order, times: u32) -> Result<u32> {
-        let mut ended = 0u32;
+    /// Puts a deadline off, and stops and starts one, so many times.
+    fn put_off(&mut self, order: Order, times: u32) -> Result<()> {
         for k in 0..times {
             let place = self.next_place(order);
-            if let Some(id) = self.ids.get_mut(place) {
-                if self.table.end(*id).is_some() {
-                    ended = ended.saturating_add(1);
+            if let Some(live) = self.rows.get(place) {
+                self.deadlines.touch(live.id, k as u64);
+                self.deadlines.stop(live.id);
+                if self.deadlines.start(live.id, k as u64).is_err() {
+                    bail!("no memory for a deadline");
                 }
-                *id = give(&mut self.table, k as u64)?;
             }
         }
-        Ok(ended)
+        Ok(())
     }
 }
 
@@ -123,17 +177,26 @@ fn measure(rt: &(impl Clock + Print), alloc: Global, count: u32, order: Order) -
         Order::Drawn => "drawn",
     };
     let start = Instant::now(rt)?;
-    let found = filled.find_rows(order, CALLS);
-    let row = nanoseconds_each(rt, start)?;
-    let start = Instant::now(rt)?;
-    let ended = filled.replace_rows(order, CALLS)?;
-    let both = nanoseconds_each(rt, start)?;
-    if found != CALLS || ended != CALLS {
-        bail!("a row was missing");
-    }
+    filled.put_off(order, CALLS)?;
+    let each = nanoseconds_each(rt, start)?;
     println!(rt;
-        "IdTable with {count} live rows, {rows}: row {row} ns, end and then give {both} ns together"
+        "Deadlines with {count} that wait, {rows}: touch, stop and start together {each} ns"
     )?;
+    let calls = [
+        (Call::Row, "row"),
+        (Call::Find, "find"),
+        (Call::Touch, "touch"),
+        (Call::FinishAndGive, "finish and give together"),
+        (Call::EndAndGive, "end and give together"),
+    ];
+    for (call, name) in calls {
+        let start = Instant::now(rt)?;
+        if filled.calls(call, order, CALLS)? != CALLS {
+            bail!("a row was missing");
+        }
+        let each = nanoseconds_each(rt, start)?;
+        println!(rt; "IdTable with {count} live rows, {rows}: {name} {each} ns")?;
+    }
     Ok(())
 }
 
@@ -149,10 +212,11 @@ fn main(rt: HostRuntime) -> Result<()> {
         }
         _ => {
             let mut filled = Filled::with_rows(rt.alloc(), 1_000)?;
-            let found = filled.find_rows(Order::Drawn, 1_000);
-            let ended = filled.replace_rows(Order::Drawn, 1_000)?;
+            let found = filled.calls(Call::Row, Order::Drawn, 1_000)?;
+            let ended = filled.calls(Call::EndAndGive, Order::Drawn, 1_000)?;
+            let finished = filled.calls(Call::FinishAndGive, Order::Drawn, 1_000)?;
             println!(rt;
-                "tables_bench: of 1000 rows {found} were found, and {ended} ended and given again"
+                "tables_bench: of 1000 rows {found} were found, {ended} ended and {finished} finished, and others given"
             )?;
         }
     }
