@@ -2,7 +2,8 @@
 //! and 5.1).
 //!
 //! The layer above may rely on this: what is read is exactly what the definitions of `ldap_spec` say, with the
-//! places of its parts, and takes no memory; what is written is the canonical spelling.
+//! places of its parts, and takes no memory; what is written is the canonical spelling, and no memory is wanting where
+//! it fits the room.
 #![tactic(auto)]
 
 ghost use Rattle.std.specs.Prelude.{◌^◌, ◌<◌, length};

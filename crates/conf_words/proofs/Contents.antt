@@ -36,4 +36,4 @@ reads_finished r m line (c ∷ cs) utf8 ended words open_quote finishes = absurd
 reads_finished (Ok ws) m line [] utf8 ended words open_quote finishes = content_of-words line utf8 (sym open_quote ∙ finishes.0) ∙ ap (λ ws. Worded ws) (sym words ∙ sym finishes.1)
 reads_finished (Err OpenQuote) m line [] utf8 ended words open_quote finishes = content_of-open line utf8 (sym open_quote ∙ finishes)
 reads_finished (Err NotUtf8) m line [] utf8 ended words open_quote finishes = absurd finishes
-reads_finished (Err NoMemory) m line [] utf8 ended words open_quote finishes = tt
+reads_finished (Err NoMemory) m line [] utf8 ended words open_quote finishes = is_utf8-from_IsUtf8 line utf8

@@ -1,9 +1,9 @@
 -- The first group of some physical lines, and what is behind it.
-use Rattle.std.proofs.Common.{◌≡◌, ℕ, suc, ◌+◌, ◌&&◌, ◌∙◌, Bool, true, false, not, List, [], ◌∷◌, ◌++◌, map, length, refl, ap, sym, arith, append_assoc, add-zero, if◌then◌else◌, Bor}
+use Rattle.std.proofs.Common.{◌≡◌, ◌≢◌, ℕ, suc, ◌+◌, ◌&&◌, ◌∙◌, Bool, true, false, not, List, [], ◌∷◌, ◌++◌, map, length, refl, ap, sym, arith, append_assoc, add-zero, if◌then◌else◌, Bor}
 use Rattle.std.specs.Prelude.{filter}
 use Rattle.std.specs.List.{join_with_byte}
 use Rattle.conf_words.specs.Quoting.{is_space}
-use Rattle.conf_words.specs.Lines.{begins, is_blank, continues, is_number_sign, onto_first_group, groups_from, is_kept, line_of, lines_from, unindented, joined, content_of}
+use Rattle.conf_words.specs.Lines.{ConfLine, begins, is_blank, continues, is_number_sign, onto_first_group, groups_from, is_kept, line_of, lines_from, unindented, joined, content_of}
 use Rattle.conf_words.specs.Reading.{BeginsWith, Cuts, Passes, behind, continuations, lines_at, physical}
 use Rattle.conf_words.specs.declared.joining.First.{First}
 use Rattle.conf_words.specs.declared.place.Place.{Place}
@@ -51,9 +51,14 @@ lines_at-comment place after passed line cuts not_blank comment passes =
     ∙ (λ i. lines_from (sym cuts.number i + length (continuations (physical after))) (behind (physical after)))
     ∙ (λ i. lines_from (sym passes.number i) (sym passes.lines i))
 
+-- what begins with a line is something
+begun_is_some : (first : ConfLine) (later lines : List ConfLine) → lines ≡ first ∷ later → lines ≢ []
+begun_is_some first later lines begun none = let bad : [] ≡ first ∷ later = sym none ∙ begun in cc
+
 -- another line at a place is the first that is left there
 pub begins_with_line : (place after : Place) (line : Bor (List ℕ)) → Cuts place line.now after → is_blank line.now ≡ false → begins is_number_sign line.now ≡ false → BeginsWith place (record { number = place.number; line = line; after = after })
 begins_with_line place after line cuts not_blank no_comment = record {
+  some = begun_is_some _ _ (lines_at place) (ap (lines_from place.number) cuts.lines ∙ lines_from-kept place.number line.now (physical after) not_blank no_comment);
   lines = ap (lines_from place.number) cuts.lines;
   not_blank = not_blank;
   no_comment = no_comment;

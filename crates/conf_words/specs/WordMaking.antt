@@ -1,5 +1,6 @@
 -- What a word maker stands for: the words of the whole line, by what was read of it and what is left.
 use Rattle.std.specs.Prelude.{◌≡◌, ℕ, Bool, true, false, List, [], ◌∷◌, ◌++◌, Option, Some, None, Result, Ok, Err, string_bytes, option_map, option_to_list, unwrap_or, not}
+use Rattle.std.specs.Str.{is_utf8}
 use Rattle.conf_words.specs.Lines.{Worded, Faulty, content_of}
 use Rattle.conf_words.specs.Quoting.{signs_behind, stays_open, parts, words_of_parts}
 use Rattle.conf_words.specs.declared.words.WordMaker.{WordMaker}
@@ -49,16 +50,16 @@ pub record TurnsQuote (old new : WordMaker) : Type 0 where
   pub quoted : new.quoted ≡ not old.quoted
   pub escaped : new.escaped ≡ old.escaped
 
--- what a finished maker answers
+-- what a finished maker answers; memory wants only where no quote is open
 abbrev pub Finishes : Result (List (List ℕ)) Wordless → WordMaker → Type 0
 Finishes (Ok words) m = (leaves_open m [] ≡ false) × (words ≡ makes m [])
 Finishes (Err OpenQuote) m = leaves_open m [] ≡ true
 Finishes (Err NotUtf8) m = ⊥
-Finishes (Err NoMemory) m = Unit {0}
+Finishes (Err NoMemory) m = leaves_open m [] ≡ false
 
--- what is answered for a joined line
+-- what is answered for a joined line; memory wants only where it is UTF-8
 abbrev pub Reads : Result (List (List ℕ)) Wordless → List ℕ → Type 0
 Reads (Ok words) line = content_of line ≡ Worded words
 Reads (Err OpenQuote) line = content_of line ≡ Faulty 2
 Reads (Err NotUtf8) line = content_of line ≡ Faulty 1
-Reads (Err NoMemory) line = Unit {0}
+Reads (Err NoMemory) line = is_utf8 line ≡ true

@@ -162,11 +162,11 @@ impl WordMaker {
     fn finish(mut self) -> Result<Words, Wordless>
         ensures { Finishes result self }
     {
-        if self.escaped {
-            self.add('\\')?;
-        }
         if self.quoted {
             return Err(Wordless::OpenQuote);
+        }
+        if self.escaped {
+            self.add('\\')?;
         }
         self.end_word()?;
         let WordMaker { words, .. } = self;

@@ -5,3 +5,4 @@ pub mod Limits
 pub mod Repeats
 pub mod Tables
 pub mod Texts
+mod RunSettings

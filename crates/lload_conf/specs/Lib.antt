@@ -3,6 +3,7 @@ pub mod Configuration
 pub mod Draft
 pub mod Faults
 pub mod Line
+pub mod RunSettings
 pub mod Settings
 pub mod Table
 pub mod Values

@@ -1,6 +1,10 @@
 ghost use Rattle.std.specs.Prelude.{◌≡◌, ◌≤◌, length, IfOk, IsOk, Ok};
 ghost use Rattle.lload_conf.specs.Answers.{IsConfig};
 ghost use Rattle.lload_conf.specs.Configuration.{bench_text, configuration, plain_text};
+ghost use Rattle.lload_conf.specs.RunSettings.{settings_of};
+ghost use Rattle.lload_spec.specs.Bench.{bench as bench_settings};
+ghost use Rattle.lload_spec.specs.Plain.{plain as plain_settings};
+ghost use Rattle.lload_spec.specs.Settings.{usual_limit};
 
 use crate::config::Config;
 use crate::reading::{ConfFault, read};
@@ -18,6 +22,7 @@ const BENCH: &[u8] =
 /// The built-in configuration of one backend, with one regular and one bind connection.
 pub fn plain(alloc: Global) -> Result<Config, NoMemory>
     ensures text { IfOk result (λ config. configuration plain_text ≡ Ok config) }
+    ensures settings { IfOk result (λ config. settings_of usual_limit config ≡ plain_settings) }
     ensures conditions { IfOk result (λ config. IsConfig config) }
 {
     built_in(alloc, PLAIN)
@@ -27,6 +32,7 @@ pub fn plain(alloc: Global) -> Result<Config, NoMemory>
 /// connection.
 pub fn bench(alloc: Global) -> Result<Config, NoMemory>
     ensures text { IfOk result (λ config. configuration bench_text ≡ Ok config) }
+    ensures settings { IfOk result (λ config. settings_of usual_limit config ≡ bench_settings) }
     ensures conditions { IfOk result (λ config. IsConfig config) }
 {
     built_in(alloc, BENCH)

@@ -1,8 +1,8 @@
-ghost use Rattle.std.specs.Prelude.{◌≡◌, [], length, false, IfOk, unwrap_or};
+ghost use Rattle.std.specs.Prelude.{◌≡◌, [], length, None, false, IfOk, IsOk, unwrap_or};
 ghost use Rattle.lload_conf.specs.Draft.{before_draft, bind_of, draft_fault, empty_draft, finished, stood_in, Takes, whole_plan, with_entry};
 ghost use Rattle.lload_conf.specs.Faults.{passes_limit};
 ghost use Rattle.lload_conf.specs.Settings.{address_of, backend_of, host_of, kind_of, own_bind_of};
-ghost use Rattle.lload_conf.specs.Line.{argument_of, value_of};
+ghost use Rattle.lload_conf.specs.Line.{argument_of, entry_of, value_of};
 ghost use Rattle.lload_conf.specs.Values.{number_or_default};
 
 use crate::config::{Address4, Config, Host, Hosts, OwnBind};
@@ -63,9 +63,11 @@ impl Draft {
         }
     }
 
-    /// Takes a line, which is given by its words, or else answers the lowest kind of fault that it has.
+    /// Takes a line, which is given by its words, or else answers the lowest kind of fault that it has. An unknown
+    /// directive takes no memory.
     pub fn take(&mut self, alloc: Global, words: &[Word]) -> Result<Option<u8>, NoMemory>
-        ensures { IfOk result (λ fault. Takes self.old words.now fault self.new) }
+        ensures takes { IfOk result (λ fault. Takes self.old words.now fault self.new) }
+        ensures unknown { entry_of words.now ≡ None → IsOk result }
     {
         let Some((name, arguments)) = words.split_first() else {
             return Ok(Some(3));

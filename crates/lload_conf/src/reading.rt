@@ -1,9 +1,9 @@
-ghost use Rattle.std.specs.Prelude.{◌≡◌, ◌≤◌, length, IfOk};
+ghost use Rattle.std.specs.Prelude.{◌≡◌, ◌≢◌, ◌≤◌, [], length, Err, IfOk};
 ghost use Rattle.lload_conf.specs.Answers.{Answers, IsConfig};
 ghost use Rattle.lload_conf.specs.Configuration.{configuration};
 ghost use Rattle.lload_conf.specs.Draft.{answer_of_draft};
 ghost use Rattle.lload_conf.specs.Within.{IsWithin};
-ghost use Rattle.conf_words.specs.Lines.{line_count};
+ghost use Rattle.conf_words.specs.Lines.{conf_lines, line_count};
 
 use crate::config::Config;
 use crate::draft::Draft;
@@ -32,11 +32,13 @@ impl From<NoMemory> for ConfFault {
 }
 
 /// The configuration of a text, as lloadd.conf(5) names it and this project takes it, or its first fault. A text of no
-/// faulty line and no backend has its fault, of kind 10, one line behind its last.
+/// faulty line and no backend has its fault, of kind 10, one line behind its last; that of a text without a line takes no
+/// memory.
 pub fn read(alloc: Global, text: &[u8]) -> Result<Config, ConfFault>
     requires { length text.now ≤ 1048576 }
     ensures answer { Answers result (configuration text.now) }
     ensures conditions { IfOk result (λ config. IsConfig config) }
+    ensures no_line { conf_lines text.now ≡ [] → result ≢ Err ConfFault.NoMemory }
 {
     let mut reader = LineReader::new(alloc, text);
     let mut draft = Draft::new(alloc);
@@ -60,6 +62,7 @@ fn at_end(text: &[u8], draft: Draft) -> Result<Config, ConfFault>
     requires within { IsWithin draft }
     ensures answer { Answers result (answer_of_draft (line_count text.now) draft) }
     ensures conditions { IfOk result (λ config. IsConfig config) }
+    ensures no_backend { length draft.hosts ≡ 0 → result ≢ Err ConfFault.NoMemory }
 {
     if draft.backends() == 0 {
         return Err(ConfFault::Line {

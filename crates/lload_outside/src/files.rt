@@ -1,4 +1,4 @@
-ghost use Rattle.std.specs.Prelude.{ℕ, ◌≡◌, ◌≢◌, ◌≤◌, List, Option, Some};
+ghost use Rattle.std.specs.Prelude.{ℕ, ◌≡◌, ◌≢◌, ◌≤◌, List, Option, Some, length};
 ghost use Rattle.std.specs.Option.{option_copied};
 ghost use Rattle.lload_outside.specs.Causes.{Rose};
 ghost use Rattle.lload_outside.specs.Files.{file_of};
@@ -64,6 +64,7 @@ pub fn find_file<'a>(files: &'a FileTable, name: &Word) -> Option<&'a Body>
 pub fn copy_within(alloc: Global, content: &[u8], limit: u32) -> FileRead
     ensures told { ReadsFile (Some content.now) limit result }
     ensures never_fails { result ≢ FileRead.Failed }
+    ensures no_memory { result ≡ FileRead.NoMemory → length content.now ≤ limit }
 {
     if content.len() > limit as usize {
         return FileRead::TooLong;

@@ -1,4 +1,4 @@
-ghost use Rattle.std.specs.Prelude.{◌≡◌, ◌≢◌, ◌<◌, [], length, Some, unwrap_or, IsOkAnd};
+ghost use Rattle.std.specs.Prelude.{◌≡◌, ◌≢◌, ◌<◌, ◌≤◌, [], length, Some, unwrap_or, IsOkAnd, IsSomeAnd};
 ghost use Rattle.lload_outside.specs.Files.{file_of};
 ghost use Rattle.lload_outside.specs.Told.{Reads, Writes, ReadsFile, MovesMost, KeepsRest, PutsAll};
 
@@ -141,6 +141,7 @@ impl FileReader for QuietFiles {
         ensures files { self.new ≡ self.old }
         ensures told { ReadsFile (Some (unwrap_or (file_of self.old name.now) [])) limit result }
         ensures never_fails { result ≢ FileRead.Failed }
+        ensures no_memory { result ≡ FileRead.NoMemory → IsSomeAnd (file_of self.old name.now) (λ content. length content ≤ limit) }
     {
         match find_file(&self.files, name) {
             Some(content) => copy_within(self.alloc, content.as_slice(), limit),

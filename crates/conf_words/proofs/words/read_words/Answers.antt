@@ -1,5 +1,7 @@
-use Rattle.std.proofs.Common.{sym, ◌∙◌, ◌≡◌, rules, ap}
+use Rattle.std.proofs.Common.{sym, ◌∙◌, ◌≡◌, rules, ap, true}
+use Rattle.std.specs.Str.{is_utf8}
 use Rattle.std.specs.Str.Iter.{chars_rest}
+use Rattle.std.proofs.lemmas.Str.{is_utf8-from_IsUtf8}
 use Rattle.std.specs.Prelude.{encode_utf8}
 use Rattle.conf_words.specs.Quoting.{signs_behind, stays_open}
 use Rattle.conf_words.specs.WordMaking.{Goes, leaves_open, makes}
@@ -23,6 +25,11 @@ loop-c-preserved c =
       sym (goes.words (chars_rest c.next.new.self)) ∙ ap (makes c.loop-c.maker) (sym left) ∙ c.loop-c.invariant.0,
       sym (goes.open_quote (chars_rest c.next.new.self)) ∙ ap (leaves_open c.loop-c.maker) (sym left) ∙ c.loop-c.invariant.1,
     )
+
+pub returns-in_err-take : goal.returns-in_err-take
+returns-in_err-take c =
+    let utf8 : is_utf8 c.args.line.now ≡ true = is_utf8-from_IsUtf8 c.args.line.now c.in-Ok.ensures.cases.1 in
+    search rules
 
 pub returns : goal.returns
 returns c = reads_finished c.finish.result c.loop-c.maker c.args.line.now (chars_rest c.loop-c.c-iterator) c.in-Ok.ensures.cases.1 c.in-None.ensures.steps.0.0 c.loop-c.invariant.0 c.loop-c.invariant.1 c.finish.ensures
