@@ -1,0 +1,16 @@
+pub mod KindsKept
+pub mod Matches
+pub mod NamesNone
+pub mod CheckTests
+pub mod ClientLives
+pub mod ClientTurns
+pub mod ClientStalls
+pub mod ClientCancels
+pub mod ClientOuts
+pub mod ClientEnds
+pub mod ClientGives
+pub mod ClientMarks
+pub mod ClientLate
+pub mod ClientClauses
+pub mod ClientKinds
+pub mod ClientChecks

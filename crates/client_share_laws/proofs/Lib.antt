@@ -1,0 +1,11 @@
+pub mod Whats
+pub mod ClientCases
+pub mod RowKinds
+pub mod RowsGone
+pub mod ClientKept
+pub mod OperationNames
+pub mod ClientChoices
+pub mod ClientGoes
+pub mod ClientOwns
+pub mod ClientOrder
+pub mod ClientNotices

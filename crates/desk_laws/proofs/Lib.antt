@@ -1,0 +1,4 @@
+pub mod DeskSays
+pub mod DeskFacts
+pub mod DeskStands
+pub mod DeskShare

@@ -1,0 +1,9 @@
+pub mod Numbers
+pub mod Entries
+pub mod Kept
+pub mod States
+pub mod Turns
+pub mod Links
+pub mod Later
+pub mod DeskLinks
+pub mod ClientLinks

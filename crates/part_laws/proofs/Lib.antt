@@ -1,0 +1,5 @@
+pub mod ListLaws
+pub mod Induction
+pub mod Giving
+pub mod Same
+pub mod FitGiving
