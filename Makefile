@@ -1,14 +1,27 @@
 # `make run` builds the program and runs its main job; `make check CONF=FILE` checks a configuration; `make test` is the
-# whole gate; `make bench` measures; `make man` shows the manual pages.
-.PHONY: run check test bench man
+# whole gate; `make bench` measures; `make man` shows the manual pages. `make program` builds the program, and `make
+# install PREFIX=.. DESTDIR=..` lays it down with the manual pages and the samples; `make uninstall` takes them away.
+.PHONY: run check test bench man program install uninstall
 
 CONF = examples/lloadd.conf
+PREFIX = /usr/local
+DESTDIR =
+
+SAMPLES = lloadd.conf one_backend.conf two_tiers.conf one_delete.script
+PROGRAMS = $(DESTDIR)$(PREFIX)/sbin
+MANUAL = $(DESTDIR)$(PREFIX)/share/man
+DOCS = $(DESTDIR)$(PREFIX)/share/doc/lloadd
+
+# The name goes to the shell as it is, with its spaces.
+export CONF
 
 run:
 	@cd crates/lloadd && rt run -- replay plain < ../../examples/one_delete.script
 
+# Of `plain` and of no name no file is meant; any other name is one from here.
 check:
-	@cd crates/lloadd && rt run -- check $(abspath $(CONF))
+	@case $$CONF in '' | plain | /*) conf=$$CONF ;; *) conf=$$(pwd)/$$CONF ;; esac && \
+	cd crates/lloadd && rt run -- check "$$conf"
 
 test:
 	rt ci
@@ -23,3 +36,20 @@ bench:
 man:
 	@man -l man/lloadd.8
 	@man -l man/lloadd.conf.5
+
+# The toolchain builds a program by running it.
+program:
+	@cd crates/lloadd && rt run -- check plain
+
+install: program
+	mkdir -p "$(PROGRAMS)" "$(MANUAL)/man5" "$(MANUAL)/man8" "$(DOCS)/examples"
+	install -m 755 crates/lloadd/out/lloadd "$(PROGRAMS)/lloadd"
+	install -m 644 man/lloadd.conf.5 "$(MANUAL)/man5/lloadd.conf.5"
+	install -m 644 man/lloadd.8 "$(MANUAL)/man8/lloadd.8"
+	install -m 644 $(SAMPLES:%=examples/%) "$(DOCS)/examples"
+
+# Folders that others use too stay, and so do the samples' own where something else was put there.
+uninstall:
+	rm -f "$(PROGRAMS)/lloadd" "$(MANUAL)/man5/lloadd.conf.5" "$(MANUAL)/man8/lloadd.8"
+	@for name in $(SAMPLES); do echo "rm -f $(DOCS)/examples/$$name"; rm -f "$(DOCS)/examples/$$name" || exit; done
+	@rmdir "$(DOCS)/examples" "$(DOCS)" 2>/dev/null || :
