@@ -1,5 +1,5 @@
 -- What the turns of a connection of either kind give.
-use Rattle.std.proofs.Common.{◌≡◌, ℕ, Bool, true, false, ◌==◌, ◌&&◌, not, List, [], ◌∷◌, ◌++◌, flat_map, refl, ap, ◌∙◌, sym, max, length, arith}
+use Rattle.std.proofs.Common.{◌≡◌, ℕ, Bool, true, false, ◌==◌, ◌&&◌, not, List, [], ◌∷◌, ◌++◌, flat_map, refl, ap, ◌∙◌, sym, max, length}
 use Rattle.std.specs.Prelude.{Option, Some, None, nat_le, is_none, max}
 use Rattle.std.proofs.lemmas.List.{append-nil}
 use Rattle.lload_names.specs.declared.names.OpName.{OpName}
@@ -12,14 +12,13 @@ use Rattle.lload_names.specs.declared.names.What.TheVariants as what
 use Rattle.lload_spec.specs.Settings.{Settings, place_at}
 use Rattle.part_spec.specs.Marked.{Taken, Marked, entries}
 use Rattle.part_spec.specs.Inputs.{Act, act, nothing, also, entries_of, to, marked_by, letter_of, moment_for, moment_of}
-use Rattle.part_spec.specs.ConnectionState.{ConnectionState, UpRow, step_connection, is_there}
+use Rattle.part_spec.specs.ConnectionState.{ConnectionState, step_connection, is_there}
 use Rattle.part_spec.specs.ConnectionTurn.{ended, giving, retires, goes_down, down_letters, behind_act, is_drained, with_drained, where_so, loss}
 use Rattle.part_spec.specs.Gives.{connection_gives, connection_letters}
 use Rattle.part_laws.proofs.ListLaws.{le_max}
 use Rattle.connection_laws.proofs.ConnectionSays.{number_step}
 use Rattle.connection_laws.proofs.Pieces.{up_entry, marked_up}
 use Rattle.connection_laws.proofs.Makes.{turn_of}
-use Rattle.std.proofs.lemmas.Bool.Decides.{nat_tests}
 use Rattle.lload_names.specs.declared.plans.Place.{Place}
 use Rattle.lload_names.specs.declared.inputs.Input.{Input}
 use Rattle.lload_names.specs.declared.inputs.Effects.{Effects}
@@ -30,7 +29,7 @@ use Rattle.lload_spec.proofs.Growth.{left, right}
 use Rattle.part_laws.specs.Turns.{Event, Comes, Severed, made, no_effects}
 use Rattle.part_laws.proofs.Giving.{gives_more}
 use Rattle.connection_laws.specs.Turns.{connection_event}
-use Rattle.connection_laws.proofs.Through.{steps_are, turn_more}
+use Rattle.connection_laws.proofs.Through.{steps_are, turn_more, no_rows}
 
 -- What a turn's entries give from a state.
 abbrev pub GivesTurn : Settings → ConnectionState → ℕ → ℕ → Option Taken → List What → List Posted → Type 0
@@ -55,10 +54,6 @@ module _ (s : Settings) (u at : ℕ) where
 drained_down : (q : ConnectionState) → is_drained q ≡ true → down_letters q ≡ to Desk (IsDown q.number)
 drained_down q d = ap (λ rows. flat_map (loss q) rows ++ ((elim q.holder [ None ↦ [] | Some h ↦ ended q h None ]) ++ to Desk (IsDown q.number))) (no_rows q.rows (right (q.retired && not q.down) _ (left (q.retired && not q.down && length q.rows == 0) _ d))) ∙ ap (λ o. (elim o [ None ↦ [] | Some h ↦ ended q h None ]) ++ to Desk (IsDown q.number)) (no_holder q.holder (right (q.retired && not q.down && length q.rows == 0) _ d))
   where
-    no_rows : (rows : List UpRow) → (length rows == 0) ≡ true → rows ≡ []
-    no_rows [] e = refl
-    no_rows (r ∷ rows) e = absurd (grind (arith, nat_tests, e))
-
     no_holder : (o : Option OpName) → is_none o ≡ true → o ≡ None
     no_holder None e = refl
     no_holder (Some h) e = absurd (let bad : false ≡ true = e in cc)

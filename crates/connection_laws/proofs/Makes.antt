@@ -1,7 +1,7 @@
 -- What a rule of a connection of either kind makes: a turn of permitted entries.
 use Rattle.std.proofs.Common.{◌≡◌, ℕ, Bool, true, false, ◌==◌, ◌&&◌, ◌||◌, not, List, [], ◌∷◌, ◌++◌, refl, ap, ◌∙◌, sym, subst}
 use Rattle.std.specs.Prelude.{Option, None, nat_le, nat_lt, map, is_some}
-use Rattle.std.specs.List.{list_any}
+use Rattle.std.specs.List.{list_any, list_all}
 use Rattle.ldap_spec.specs.Bodies.{abandon}
 use Rattle.lload_names.specs.declared.names.Entry.{Entry}
 use Rattle.lload_names.specs.declared.names.OpName.{OpName}
@@ -53,6 +53,23 @@ tail_none (e ∷ es) = refl
 -- a turn of an entry and what stands behind it
 pub chain_cons : (s : Settings) (before : List Marked) (l : ConnectionLedger) (u at : ℕ) (mark : Option Taken) (w : What) (ws : List What) → Permit s before l (marked_up u at mark w) (turn_of u at None ws) → Chain s (before ++ marked_up u at mark w ∷ []) (step_connection_ledger s l (marked_up u at mark w)) (turn_of u at None ws) → Chain s before l (turn_of u at mark (w ∷ ws))
 chain_cons s before l u at mark w ws p k = subst (λ ms. Chain s before l (marked_up u at mark w ∷ ms)) (sym (tail_none (entries_of (Connection u) at ws))) (p, k)
+
+-- what stands first where an identifier is given
+pub giving_first : (s : Settings) (u at id : ℕ) (w : What) (t : Entry → Bool) → first_passes t (entries (turn_of u at None (giving s id w))) ≡ t (up_entry u at w)
+giving_first s u at id w t = by (id == s.id_limit)
+  where
+    by : (b : Bool) → first_passes t (entries (turn_of u at None (elim b [ true ↦ w ∷ what.Retired ∷ [] | false ↦ w ∷ [] ]))) ≡ t (up_entry u at w)
+    by true = refl
+    by false = refl
+
+-- what is asked of the marks of a turn, its own mark meets
+pub turn_marks : (may : Option Taken → Bool) (u at : ℕ) (mark : Option Taken) (ws : List What) → may None ≡ true → may mark ≡ true → list_all (λ (m : Marked). may m.mark) (turn_of u at mark ws) ≡ true
+turn_marks may u at mark [] none h = refl
+turn_marks may u at mark (w ∷ ws) none h = both (may mark) _ h (rest (entries_of (Connection u) at ws))
+  where
+    rest : (es : List Entry) → list_all (λ (m : Marked). may m.mark) (map (λ x. record { entry = x; mark = None }) es) ≡ true
+    rest [] = refl
+    rest (e ∷ es) = both (may None) _ none (rest es)
 
 -- An identifier is given, with Retired behind it where it is the limit.
 module _ (s : Settings) (before : List Marked) (l : ConnectionLedger) (at : ℕ) (later : nat_le l.state.moment at ≡ true) (linked : l.state.linked ≡ true) (there : l.state.down ≡ false) where

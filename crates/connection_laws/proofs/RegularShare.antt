@@ -47,8 +47,8 @@ use Rattle.connection_laws.proofs.RegularLetters.{makes_forward, makes_drop, mak
 use Rattle.connection_laws.proofs.Pausings.{client_is}
 use Rattle.connection_laws.proofs.RegularTurns.{makes_link, rows_through}
 use Rattle.connection_laws.proofs.RegularAlone.{Alone, alone_through}
-use Rattle.connection_laws.proofs.RegularTicks.{Stays, makes_tick, all_unmarked}
-use Rattle.connection_laws.proofs.Makes.{Makes, turn_of, nothing_made}
+use Rattle.connection_laws.proofs.RegularTicks.{Stays, makes_tick}
+use Rattle.connection_laws.proofs.Makes.{Makes, turn_of, nothing_made, turn_marks}
 use Rattle.connection_laws.proofs.Through.{kind_through, gone_through}
 use Rattle.connection_laws.proofs.Rules.{gives_some, fit_by, placed_at, so, without_letter, with_letter, sever_made, event_after, whole_share}
 use Rattle.part_spec.specs.Turn.{connection_act}
@@ -178,15 +178,11 @@ after_turn s u before l at mark ws h n k =
     record {
       keeps = keeps_turn s u before l (turn_of l.state.number at mark ws) h.keeps k.0 k.1;
       kind = kind_through s (turn_of l.state.number at mark ws) l ∙ h.kind;
-      sound = rows_through s u (turn_of l.state.number at mark ws) before l k.0 (no_binds ws) h.sound;
-      apart = apart_through s u (turn_of l.state.number at mark ws) before l h.keeps.stands k.0 (no_binds ws) h.sound h.apart;
+      sound = rows_through s u (turn_of l.state.number at mark ws) before l k.0 (turn_marks marks_no_bind l.state.number at mark ws refl n) h.sound;
+      apart = apart_through s u (turn_of l.state.number at mark ws) before l h.keeps.stands k.0 (turn_marks marks_no_bind l.state.number at mark ws refl n) h.sound h.apart;
       gone = gone_through s (turn_of l.state.number at mark ws) before l k.0 h.gone;
-      alone = alone_through s u (turn_of l.state.number at mark ws) before l h.keeps.stands k.0 (no_binds ws) h.sound h.alone;
+      alone = alone_through s u (turn_of l.state.number at mark ws) before l h.keeps.stands k.0 (turn_marks marks_no_bind l.state.number at mark ws refl n) h.sound h.alone;
     }
-  where
-    no_binds : (vs : List What) → list_all (λ m. marks_no_bind m.mark) (turn_of l.state.number at mark vs) ≡ true
-    no_binds [] = refl
-    no_binds (v ∷ vs) = both (marks_no_bind mark) _ n (all_unmarked l.state.number at vs)
 
 -- each turn keeps it
 pub event_keeps : (s : Settings) (u : ℕ) → is_of_kind s Regular u ≡ true → (before : List Marked) (l : ConnectionLedger) → RegularKeeps s u before l → (x : Event) → is_unfit (fits_connection s) l (letter_with x) ≡ false → RegularKeeps s u (before ++ made (connection_event s) l.state x) (behind (step_connection_ledger s) l (made (connection_event s) l.state x))

@@ -1,5 +1,5 @@
 -- What stays through a turn of a connection of either kind, and the end where nothing is left to do.
-use Rattle.std.proofs.Common.{◌≡◌, ℕ, Bool, true, false, ◌==◌, ◌&&◌, not, List, [], ◌∷◌, ◌++◌, length, refl, ap, ◌∙◌, sym, subst}
+use Rattle.std.proofs.Common.{◌≡◌, ℕ, Bool, true, false, ◌==◌, ◌&&◌, not, List, [], ◌∷◌, ◌++◌, length, refl, ap, ◌∙◌, sym, subst, arith}
 use Rattle.std.specs.Prelude.{Option, None, map, nat_le}
 use Rattle.std.specs.List.{list_any}
 use Rattle.std.proofs.lemmas.List.{map-append}
@@ -16,7 +16,7 @@ use Rattle.lload_spec.specs.Entries.{is_retired}
 use Rattle.lload_spec.specs.Strict.{is_empty, may_follow_down}
 use Rattle.part_spec.specs.Marked.{Marked, Taken, entries}
 use Rattle.part_spec.specs.Inputs.{Act, act, also, entries_of, to}
-use Rattle.part_spec.specs.ConnectionState.{ConnectionState, step_connection, step_connections, connection_behind}
+use Rattle.part_spec.specs.ConnectionState.{ConnectionState, step_connection, step_connections, connection_behind, UpRow}
 use Rattle.part_spec.specs.ConnectionTurn.{is_drained, with_drained, behind_act}
 use Rattle.part_spec.specs.Fit.{ConnectionLedger, step_connection_ledger, ledger_behind as behind}
 use Rattle.lload_spec.proofs.Growth.{left, right}
@@ -25,6 +25,7 @@ use Rattle.connection_laws.proofs.ConnectionSays.{number_step, kind_step}
 use Rattle.connection_laws.proofs.Permits.{Chain, UpStands, stands_through, state_through}
 use Rattle.connection_laws.proofs.Pieces.{up_entry, marked_up, chain_append, permit_down}
 use Rattle.connection_laws.proofs.Makes.{Makes, turn_of}
+use Rattle.std.proofs.lemmas.Bool.Decides.{nat_tests}
 
 -- What stays through a turn.
 
@@ -73,6 +74,10 @@ drained_linked s u before l h d = by (entries before) l.state.linked h.begins (s
 
 drained_there : (p : ConnectionState) → is_drained p ≡ true → p.down ≡ false
 drained_there p d = not_true p.down (right p.retired (not p.down) (left (p.retired && not p.down) _ (left (p.retired && not p.down && length p.rows == 0) _ d)))
+
+pub no_rows : (rows : List UpRow) → (length rows == 0) ≡ true → rows ≡ []
+no_rows [] e = refl
+no_rows (r ∷ rows) e = absurd (grind (arith, nat_tests, e))
 
 pub steps_are : (s : Settings) (p : ConnectionState) (ms : List Marked) → step_connections s p ms ≡ behind (step_connection s) p ms
 steps_are s p [] = refl

@@ -1,0 +1,4 @@
+pub mod Lone
+pub mod Meets
+pub mod Rules
+pub mod BindShare
