@@ -1,23 +1,21 @@
 -- What a message meets on a bind connection: its one row at most, whose Bind it answers, or whose Who Am I.
-use Rattle.std.proofs.Common.{◌≡◌, ℕ, Bool, true, false, ◌==◌, ◌&&◌, ◌||◌, not, List, [], ◌∷◌, ◌++◌, flat_map, refl, ap, ◌∙◌, sym}
+use Rattle.std.proofs.Common.{◌≡◌, ℕ, Bool, true, false, ◌==◌, ◌&&◌, ◌||◌, not, List, [], ◌∷◌, ◌++◌, flat_map, refl, ap, ◌∙◌, sym, subst}
 use Rattle.std.specs.Prelude.{Option, Some, None, find, map, cond, is_none, if◌then◌else◌}
 use Rattle.std.specs.List.{list_any}
 use Rattle.std.proofs.Math.Bool.{or-false}
 use Rattle.ldap_spec.specs.Messages.{Message}
 use Rattle.ldap_spec.specs.Kinds.{same_kind, tag_of, fits, is_final, is_intermediate, is_search_result}
 use Rattle.ldap_spec.specs.Responses.{result_code, has_code}
-use Rattle.ldap_spec.specs.Bodies.{who_am_i}
 use Rattle.lload_names.specs.declared.names.OpKind.{OpKind}
 use Rattle.lload_names.specs.declared.names.OpKind.TheVariants.{Bind, Search, Modify, Add, Delete, ModifyDn, Compare, Extended}
 use Rattle.lload_names.specs.declared.names.What.{What}
-use Rattle.lload_names.specs.declared.names.What.TheVariants as what
 use Rattle.lload_spec.specs.Lists.{passes}
 use Rattle.lload_spec.specs.Settings.{Settings}
 use Rattle.lload_spec.specs.BadMessages.{is_bad, is_bad_other, is_bad_for, is_bad_answer, is_ignored}
 use Rattle.lload_spec.specs.BadMessages as bad
 use Rattle.part_spec.specs.Inputs.{Act, act, nothing, reply}
 use Rattle.part_spec.specs.ConnectionState.{ConnectionState, UpRow, OwnWait, is_bind_row, is_under, is_under_who, is_under_own, keeps_back, behind_message, behind_who, open_request, message_facts}
-use Rattle.part_spec.specs.ConnectionTurn.{giving, holder_ended}
+use Rattle.part_spec.specs.ConnectionTurn.{holder_ended}
 use Rattle.part_spec.specs.BindTurn.{answered, row_answer, who_answer, keep_back, identity_letters}
 use Rattle.part_spec.specs.Share.{succeeds, is_who_awaited}
 use Rattle.lload_spec.proofs.Growth.{left, right}
@@ -46,7 +44,7 @@ code_apart rest h = by (result_code rest) h
     by None k = refl
     by (Some code) k = false_by (code == 0) (λ j. sym (ap (λ n. n == 0) (same_number code 14 k)) ∙ j)
 
-code_there : (n : ℕ) (o : Option ℕ) → (elim o [ None ↦ false | Some code ↦ code == n ]) ≡ true → is_none o ≡ false
+pub code_there : (n : ℕ) (o : Option ℕ) → (elim o [ None ↦ false | Some code ↦ code == n ]) ≡ true → is_none o ≡ false
 code_there n None h = absurd (let bad : false ≡ true = h in cc)
 code_there n (Some code) h = refl
 
@@ -88,6 +86,11 @@ module _ (p : ConnectionState) (own : p.own_bind ≡ None) (m : Message) where
       by true e = absurd (let no : false ≡ true = sym (bad_is true e) ∙ h in cc)
       by false e = sym (bad_is false e) ∙ h
 
+-- What a good message makes: a success that is kept back makes Who Am I be asked, and nothing else makes more happen.
+abbrev pub Answers : Settings → ConnectionState → Bool → Act → Type 0
+Answers s p true a = a ≡ keep_back s p
+Answers s p false a = a.whats ≡ []
+
 -- The one row.
 module _ (s : Settings) (p : ConnectionState) (m : Message) (r : UpRow) (bind : is_bind_row r ≡ true) (above : not (r.id == 0) ≡ true) where
   kind : r.kind ≡ Bind
@@ -101,17 +104,13 @@ module _ (s : Settings) (p : ConnectionState) (m : Message) (r : UpRow) (bind : 
   good_final : is_bad_answer m (open_request r) ≡ false → is_intermediate m.rest ≡ false → is_final r.kind m.rest ≡ true
   good_final good e = fits_by (is_final r.kind m.rest) (is_intermediate m.rest) (is_search_result m.rest) (ap (λ k. is_final r.kind m.rest || is_intermediate m.rest || (same_kind k Search && is_search_result m.rest)) (sym kind) ∙ not_left (fits r.kind m.rest) _ good) e
 
-  -- what an answer to it makes happen: where it is a success that is kept back, Who Am I is asked
-  abbrev pub asked : Bool → List What
-  asked b = elim b [ true ↦ giving s p.ids.next (what.Own p.ids.next who_am_i) | false ↦ [] ]
-
-  row_whats : is_bad_answer m (open_request r) ≡ false → (row_answer s p m.rest r).whats ≡ asked (is_final r.kind m.rest && (is_bind_row r && keeps_back r m.rest))
-  row_whats good = by (is_intermediate m.rest) (is_final r.kind m.rest) (is_bind_row r) (has_code 14 m.rest) (keeps_back r m.rest) bind (λ e. ap (λ k. is_final k m.rest) kind ∙ final_apart m.rest e) (good_final good) (back_apart m.rest r)
+  row_answers : is_bad_answer m (open_request r) ≡ false → Answers s p (is_final r.kind m.rest && (is_bind_row r && keeps_back r m.rest)) (row_answer s p m.rest r)
+  row_answers good = by (is_intermediate m.rest) (is_final r.kind m.rest) (is_bind_row r) (has_code 14 m.rest) (keeps_back r m.rest) bind (λ e. ap (λ k. is_final k m.rest) kind ∙ final_apart m.rest e) (good_final good) (back_apart m.rest r)
     where
       row_act : Bool → Bool → Bool → Act
       row_act i c k = elim i [ true ↦ act [] (reply r.op m.rest false None) | false ↦ elim c [ true ↦ act [] (reply r.op m.rest true None) | false ↦ elim k [ true ↦ keep_back s p | false ↦ act [] (reply r.op m.rest true None ++ holder_ended p) ] ] ]
 
-      by : (i g b c k : Bool) → b ≡ true → (i ≡ true → g ≡ false) → (i ≡ false → g ≡ true) → (c ≡ true → k ≡ false) → (row_act i c k).whats ≡ asked (g && (b && k))
+      by : (i g b c k : Bool) → b ≡ true → (i ≡ true → g ≡ false) → (i ≡ false → g ≡ true) → (c ≡ true → k ≡ false) → Answers s p (g && (b && k)) (row_act i c k)
       by i g false c k e f q a = absurd (let bad : false ≡ true = e in cc)
       by true true true c k e f q a = absurd (let bad : true ≡ false = f refl in cc)
       by true false true c k e f q a = refl
@@ -139,9 +138,9 @@ module _ (s : Settings) (p : ConnectionState) (m : Message) (r : UpRow) (bind : 
       by true = refl
       by false = refl
 
-  pub one_whats : (a : Bool) → is_under m.id r ≡ a → (a ≡ true → is_bad_answer m (open_request r) ≡ false) → (under_act a).whats ≡ asked ((a && (is_final r.kind m.rest && (is_bind_row r && keeps_back r m.rest))) || false)
-  one_whats true e good = row_whats (good refl) ∙ ap asked (sym (or-false (is_final r.kind m.rest && (is_bind_row r && keeps_back r m.rest))))
-  one_whats false e good = who_whats (is_under_who m.id r)
+  pub one_answers : (a : Bool) → (a ≡ true → is_bad_answer m (open_request r) ≡ false) → Answers s p ((a && (is_final r.kind m.rest && (is_bind_row r && keeps_back r m.rest))) || false) (under_act a)
+  one_answers true good = subst (λ b. Answers s p b (row_answer s p m.rest r)) (sym (or-false (is_final r.kind m.rest && (is_bind_row r && keeps_back r m.rest)))) (row_answers (good refl))
+  one_answers false good = who_whats (is_under_who m.id r)
 
   -- a bad message is no success that is kept back
   pub bad_fails : is_bad_answer m (open_request r) ≡ true → (is_final r.kind m.rest && (is_bind_row r && keeps_back r m.rest)) ≡ false
@@ -180,19 +179,19 @@ module _ (s : Settings) (p : ConnectionState) (own : p.own_bind ≡ None) (lone 
   one_good : (r : UpRow) → p.rows ≡ r ∷ [] → is_bind_row r ≡ true → not (r.id == 0) ≡ true → is_bad (message_facts p) m ≡ false → is_under m.id r ≡ true → is_bad_answer m (open_request r) ≡ false
   one_good r e b above good under = sym (ap (λ c. is_bad_for (message_facts p) m (cond c (Some (open_request r)) None)) under) ∙ sym (ap bad_for e) ∙ good_other p own m good (not_ignored s p m r b above under)
 
-  one_bad : (r : UpRow) → p.rows ≡ r ∷ [] → is_bad (message_facts p) m ≡ true → is_under m.id r ≡ true → is_bad_answer m (open_request r) ≡ true
+  pub one_bad : (r : UpRow) → p.rows ≡ r ∷ [] → is_bad (message_facts p) m ≡ true → is_under m.id r ≡ true → is_bad_answer m (open_request r) ≡ true
   one_bad r e h under = sym (ap (λ c. is_bad_for (message_facts p) m (cond c (Some (open_request r)) None)) under) ∙ sym (ap bad_for e) ∙ bad_other p own m h
 
   abbrev answered_by : List UpRow → Act
   answered_by rows = elim (find (is_under m.id) rows) [ Some r ↦ row_answer s p m.rest r | None ↦ elim (find (is_under_who m.id) rows) [ Some r ↦ who_answer p m.rest r | None ↦ nothing ] ]
 
   -- a message that isn't bad: Who Am I is asked exactly where it is a success that is kept back
-  pub answered_whats : is_bad (message_facts p) m ≡ false → (answered s p m).whats ≡ (elim (list_any (succeeds m) p.rows) [ true ↦ giving s p.ids.next (what.Own p.ids.next who_am_i) | false ↦ [] ])
-  answered_whats good = by p.rows refl lone
+  pub answers : is_bad (message_facts p) m ≡ false → Answers s p (list_any (succeeds m) p.rows) (answered s p m)
+  answers good = by p.rows refl lone
     where
-      by : (rows : List UpRow) → p.rows ≡ rows → is_lone rows ≡ true → (answered_by rows).whats ≡ (elim (list_any (succeeds m) rows) [ true ↦ giving s p.ids.next (what.Own p.ids.next who_am_i) | false ↦ [] ])
+      by : (rows : List UpRow) → p.rows ≡ rows → is_lone rows ≡ true → Answers s p (list_any (succeeds m) rows) (answered_by rows)
       by [] e h = refl
-      by (r ∷ []) e h = one_whats s p m r (left (is_bind_row r) _ h) (right (is_bind_row r) _ h) (is_under m.id r) refl (λ under. one_good r e (left (is_bind_row r) _ h) (right (is_bind_row r) _ h) good under)
+      by (r ∷ []) e h = one_answers s p m r (left (is_bind_row r) _ h) (right (is_bind_row r) _ h) (is_under m.id r) (λ under. one_good r e (left (is_bind_row r) _ h) (right (is_bind_row r) _ h) good under)
       by (r ∷ q ∷ rows) e h = absurd (let bad : false ≡ true = h in cc)
 
   -- a bad message is no such success

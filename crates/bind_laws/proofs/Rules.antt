@@ -40,7 +40,7 @@ use Rattle.connection_laws.proofs.Pieces.{up_entry, marked_up, no_name, implies_
 use Rattle.connection_laws.proofs.MorePieces.{permit_got, permit_expired}
 use Rattle.connection_laws.proofs.Makes.{Makes, turn_of, chain_cons, giving_first, gives_own, gives_sent, not_ended, permit_linked}
 use Rattle.bind_laws.proofs.Lone.{BindStands, is_lone}
-use Rattle.bind_laws.proofs.Meets.{not_own, answered_whats, bad_is_none, success_waits}
+use Rattle.bind_laws.proofs.Meets.{Answers, answers, not_own, bad_is_none, success_waits}
 use Rattle.connection_laws.proofs.OwnBinds.{is_single}
 
 -- Who Am I abandons none
@@ -105,16 +105,13 @@ module _ (s : Settings) (before : List Marked) (l : ConnectionLedger) (at : ℕ)
         taken_act : Bool → Act
         taken_act b = elim b [ true ↦ goes_down l.state Bad | false ↦ answered s l.state m ]
 
-        asked : Bool → List What
-        asked b = elim b [ true ↦ giving s l.state.ids.next (what.Own l.state.ids.next who_am_i) | false ↦ [] ]
-
-        good : is_bad (message_facts l.state) m ≡ false → (b : Bool) → list_any (succeeds m) l.state.rows ≡ b → Makes s before l at None (what.Got m.id m.rest ∷ asked b)
-        good e true k = got_success e k
-        good e false k = got_alone e k
+        good : is_bad (message_facts l.state) m ≡ false → (b : Bool) → list_any (succeeds m) l.state.rows ≡ b → Answers s l.state b (answered s l.state m) → Makes s before l at None (what.Got m.id m.rest ∷ (answered s l.state m).whats)
+        good e true k a = subst (λ x. Makes s before l at None (what.Got m.id m.rest ∷ x.whats)) (sym a) (got_success e k)
+        good e false k a = subst (λ ws. Makes s before l at None (what.Got m.id m.rest ∷ ws)) (sym a) (got_alone e k)
 
         by : (b : Bool) → is_bad (message_facts l.state) m ≡ b → Makes s before l at None (what.Got m.id m.rest ∷ (taken_act b).whats)
         by true e = got_bad e
-        by false e = subst (λ ws. Makes s before l at None (what.Got m.id m.rest ∷ ws)) (sym (answered_whats s l.state own h.lone m e)) (good e (list_any (succeeds m) l.state.rows) refl)
+        by false e = good e (list_any (succeeds m) l.state.rows) refl (answers s l.state own h.lone m e)
 
   -- The letters.
   module _ (sender : PartName) where

@@ -5,9 +5,15 @@
 //! connections of both kinds in `connection_laws`.
 #![tactic(auto)]
 
-ghost use Rattle.bind_laws.specs.Turns.{BindShares};
+ghost use Rattle.bind_laws.specs.Turns.{BindShares, BindGives};
 
 /// Each list that the turns of a bind connection make keeps the connection's share, up to the first letter that isn't fit.
 pub fn a_bind_connection_keeps_its_share()
     ensures shares { BindShares }
+{}
+
+/// Where each letter of a bind connection's list was fit, the letters that the list stands for are those that its turns
+/// gave.
+pub fn a_bind_connection_gives_what_its_turns_gave()
+    ensures gives { BindGives }
 {}
