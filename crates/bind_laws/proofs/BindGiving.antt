@@ -38,11 +38,11 @@ use Rattle.connection_laws.proofs.Pieces.{marked_up}
 use Rattle.connection_laws.proofs.Makes.{tail_none}
 use Rattle.connection_laws.proofs.Rules.{gives_some}
 use Rattle.connection_laws.proofs.RegularRowsGive.{abandoned_none}
-use Rattle.connection_laws.proofs.Giving.{GivesTurn, giving_gives, drained_gives, so_gives, event_gives, Quiet, quiet_so, quiet_some, quiet_drained, event_quiet}
+use Rattle.connection_laws.proofs.Giving.{GivesTurn, giving_gives, alone_gives, drained_gives, so_gives, event_gives, Quiet, quiet_so, quiet_some, quiet_drained, event_quiet}
 use Rattle.bind_laws.specs.Turns.{BindGives}
 use Rattle.bind_laws.proofs.Lone.{BindStands, no_own}
 use Rattle.bind_laws.proofs.Meets.{Answers, answers}
-use Rattle.bind_laws.proofs.Rules.{who_names_none}
+use Rattle.bind_laws.proofs.Rules.{message_act, forward_act, leave_act, tick_act, who_names_none}
 use Rattle.bind_laws.proofs.BadMessages.{down_behind}
 use Rattle.bind_laws.proofs.BindShare.{BindKeeps, bind_act_is, begins_alone, nothing_kept, event_keeps}
 
@@ -75,24 +75,14 @@ module _ (s : Settings) (p : ConnectionState) (h : BindStands p) (own : p.own_bi
         none true = refl
         none false = refl
 
-    alone_gives : (a : Act) → letters_by (is_bad (message_facts p) m) p.kind ≡ letters_alone a → a.whats ≡ [] → GivesTurn s p p.number at None (what.Got id rest ∷ a.whats) a.letters
-    alone_gives a e n = by a.whats a.letters e n
-      where
-        by : (ws : List What) (letters : List Posted) → letters_by (is_bad (message_facts p) m) p.kind ≡ letters_alone (act ws letters) → ws ≡ [] → GivesTurn s p p.number at None (what.Got id rest ∷ ws) letters
-        by [] letters k j = ap (λ l. l ++ []) k ∙ append-nil letters
-        by (w ∷ ws) letters k j = absurd (let no : w ∷ ws ≡ [] = j in cc)
-
     message_gives : GivesTurn s p p.number at None (message s p m).whats (message s p m).letters
     message_gives = by (is_bad (message_facts p) m) refl
       where
-        taken_act : Bool → Act
-        taken_act b = elim b [ true ↦ goes_down p Bad | false ↦ answered s p m ]
-
         good : (b : Bool) → Answers s p b (answered s p m) → letters_by (is_bad (message_facts p) m) p.kind ≡ letters_alone (answered s p m) → GivesTurn s p p.number at None (what.Got id rest ∷ (answered s p m).whats) (answered s p m).letters
         good true a e = subst (λ x. GivesTurn s p p.number at None (what.Got id rest ∷ x.whats) x.letters) (sym a) (asks_gives (e ∙ ap letters_alone a))
-        good false a e = alone_gives (answered s p m) e a
+        good false a e = alone_gives s p.number at p id rest (answered s p m) e a
 
-        by : (b : Bool) → is_bad (message_facts p) m ≡ b → GivesTurn s p p.number at None (what.Got id rest ∷ (taken_act b).whats) (taken_act b).letters
+        by : (b : Bool) → is_bad (message_facts p) m ≡ b → GivesTurn s p p.number at None (what.Got id rest ∷ (message_act s p m b).whats) (message_act s p m b).letters
         by true e = bad_gives (ap (λ b. letters_by b p.kind) e) e
         by false e = good (list_any (succeeds m) p.rows) (answers s p own h.lone m e) (ap (λ b. letters_by b p.kind) e ∙ ap (letters_by false) h.kind)
 
@@ -100,18 +90,12 @@ module _ (s : Settings) (p : ConnectionState) (h : BindStands p) (own : p.own_bi
   letter_gives : (sender : PartName) (x : Letter) → Gives (Some (record { sender = sender; letter = x })) (letter s p x)
   letter_gives sender (Forward op kind rest ask_who holder) = by (is_stopped p)
     where
-      forward_act : Bool → Act
-      forward_act b = elim b [ true ↦ act (what.Missed op ∷ []) (missed_letters p op holder) | false ↦ act (giving s (id_for p.ids) (what.Sent (id_for p.ids) op rest)) (retires s p (id_for p.ids)) ]
-
-      by : (b : Bool) → Gives (Some (record { sender = sender; letter = Forward op kind rest ask_who holder })) (forward_act b)
+      by : (b : Bool) → Gives (Some (record { sender = sender; letter = Forward op kind rest ask_who holder })) (forward_act s p op rest holder b)
       by true = ap (λ k. (elim k [ Regular ↦ missed_regular_letters p op | BindKind ↦ missed_letters p op holder ]) ++ []) h.kind ∙ append-nil (missed_letters p op holder)
       by false = giving_gives s p.number at p (Some (record { sender = sender; letter = Forward op kind rest ask_who holder })) (what.Sent (id_for p.ids) op rest) (id_for p.ids) [] refl
   letter_gives sender (Leave holder) = by (holds p holder && not p.down)
     where
-      leave_act : Bool → Act
-      leave_act b = elim b [ true ↦ goes_down p Unfinished | false ↦ act (what.Idle holder ∷ []) [] ]
-
-      by : (b : Bool) → Gives (Some (record { sender = sender; letter = Leave holder })) (leave_act b)
+      by : (b : Bool) → Gives (Some (record { sender = sender; letter = Leave holder })) (leave_act p holder b)
       by true = append-nil (down_letters p)
       by false = refl
   letter_gives sender (Drop op) = refl
@@ -121,10 +105,7 @@ module _ (s : Settings) (p : ConnectionState) (h : BindStands p) (own : p.own_bi
   tick_gives : Gives None (ticks s p at)
   tick_gives = by (find (is_due s at) p.rows)
     where
-      tick_act : Option UpRow → Act
-      tick_act o = elim o [ None ↦ nothing | Some r ↦ expires p r ]
-
-      by : (o : Option UpRow) → Gives None (tick_act o)
+      by : (o : Option UpRow) → Gives None (tick_act p o)
       by None = refl
       by (Some r) =
           let end : List Posted = down_letters (record p { rows = filter (λ x. not (same_op r.op x.op)) p.rows }) in
@@ -144,21 +125,15 @@ module _ (s : Settings) (p : ConnectionState) (h : BindStands p) (own : p.own_bi
 quiet_forward : (s : Settings) (p : ConnectionState) (op : OpName) (rest : List ℕ) (holder : OpName) → Quiet (forwards s p op rest holder)
 quiet_forward s p op rest holder = by (is_stopped p)
   where
-    forward_act : Bool → Act
-    forward_act b = elim b [ true ↦ act (what.Missed op ∷ []) (missed_letters p op holder) | false ↦ act (giving s (id_for p.ids) (what.Sent (id_for p.ids) op rest)) (retires s p (id_for p.ids)) ]
-
-    by : (b : Bool) → Quiet (forward_act b)
+    by : (b : Bool) → Quiet (forward_act s p op rest holder b)
     by true = quiet_some (what.Missed op) [] (missed_letters p op holder)
     by false = λ e. absurd (let no : false ≡ true = gives_some (id_for p.ids == s.id_limit) (what.Sent (id_for p.ids) op rest) e in cc)
 
 quiet_letter : (s : Settings) (p : ConnectionState) (x : Letter) → Quiet (letter s p x)
-quiet_letter s p (Forward op kind rest ask_who holder) = quiet_forward s p op rest holder
+quiet_letter s p (Forward op sort rest ask_who holder) = quiet_forward s p op rest holder
 quiet_letter s p (Leave holder) = by (holds p holder && not p.down)
   where
-    leave_act : Bool → Act
-    leave_act b = elim b [ true ↦ goes_down p Unfinished | false ↦ act (what.Idle holder ∷ []) [] ]
-
-    by : (b : Bool) → Quiet (leave_act b)
+    by : (b : Bool) → Quiet (leave_act p holder b)
     by true = quiet_some (what.Down Unfinished) [] (down_letters p)
     by false = quiet_some (what.Idle holder) [] []
 quiet_letter s p (Drop op) = quiet_some (what.Idle op) [] []
@@ -167,10 +142,7 @@ quiet_letter s p _ = λ e. refl
 quiet_ticks : (s : Settings) (p : ConnectionState) (at : ℕ) → Quiet (ticks s p at)
 quiet_ticks s p at = by (find (is_due s at) p.rows)
   where
-    tick_act : Option UpRow → Act
-    tick_act o = elim o [ None ↦ nothing | Some r ↦ expires p r ]
-
-    by : (o : Option UpRow) → Quiet (tick_act o)
+    by : (o : Option UpRow) → Quiet (tick_act p o)
     by None = λ e. refl
     by (Some r) = quiet_some (what.Expired r.op) (what.Down TimedOut ∷ []) (expires p r).letters
 

@@ -24,9 +24,9 @@ use Rattle.lload_spec.specs.OneEach.{begins_with_bind}
 use Rattle.part_spec.specs.Marked.{Marked, Taken, entries}
 use Rattle.part_spec.specs.Inputs.{Act, act, nothing, letter_of}
 use Rattle.part_spec.specs.ConnectionState.{ConnectionState, step_connection, is_there, is_bind, is_stopped}
-use Rattle.part_spec.specs.ConnectionTurn.{goes_down, where_so, giving, retires, with_drained}
+use Rattle.part_spec.specs.ConnectionTurn.{where_so, with_drained}
 use Rattle.part_spec.specs.RegularTurn.{regular_act}
-use Rattle.part_spec.specs.BindTurn.{bind_act, link_up, message, forwards, leaves, holds, ticks, missed_letters}
+use Rattle.part_spec.specs.BindTurn.{bind_act, link_up, message, forwards, leaves, holds, ticks}
 use Rattle.part_spec.specs.Turn.{connection_act}
 use Rattle.part_spec.specs.Fit.{ConnectionLedger, empty_connection_ledger, step_connection_ledger, fits_connection, is_unfit, is_forward_of, is_of_its_kind, is_free_for, is_held_for, ledger_behind as behind}
 use Rattle.part_spec.specs.Share.{ConnectionShare}
@@ -40,7 +40,7 @@ use Rattle.connection_laws.proofs.Makes.{Makes, turn_of, nothing_made, turn_mark
 use Rattle.connection_laws.proofs.Rules.{gives_some, fit_by, placed_at, so, without_letter, with_letter, sever_made, event_after, whole_share}
 use Rattle.bind_laws.specs.Turns.{BindShares}
 use Rattle.bind_laws.proofs.Lone.{BindStands, marks_a_bind, bind_through, no_own}
-use Rattle.bind_laws.proofs.Rules.{makes_link, makes_message, makes_forward, makes_leave, makes_tick}
+use Rattle.bind_laws.proofs.Rules.{forward_act, leave_act, makes_link, makes_message, makes_forward, makes_leave, makes_tick}
 use Rattle.lload_names.specs.declared.names.EndWhy.TheVariants.{Unfinished}
 
 -- What is kept behind each turn.
@@ -97,9 +97,6 @@ module _ (s : Settings) (u : ℕ) (before : List Marked) (l : ConnectionLedger) 
   abbrev forward_kind : PartName → OpName → OpName → OpKind → List ℕ → Bool → Bool
   forward_kind sender op holder kind rest ask_who = forward_start sender op holder && l.state.up && is_of_its_kind s l.state kind rest ask_who
 
-  abbrev forward_act : OpName → List ℕ → OpName → Bool → Act
-  forward_act op rest holder b = elim b [ true ↦ act (what.Missed op ∷ []) (missed_letters l.state op holder) | false ↦ act (giving s (id_for l.state.ids) (what.Sent (id_for l.state.ids) op rest)) (retires s l.state (id_for l.state.ids)) ]
-
   free_of : (b : Bool) → b ≡ true → (f g : Bool) → (not b || f && g) ≡ true → f ≡ true
   free_of true e f g k = left f g k
   free_of false e f g k = absurd (let bad : false ≡ true = e in cc)
@@ -112,17 +109,14 @@ module _ (s : Settings) (u : ℕ) (before : List Marked) (l : ConnectionLedger) 
       let free = free_of (is_bind l.state) bind_is (is_free_for l.state holder) (is_held_for l.state op holder) (right (forward_kind sender op holder kind rest ask_who) _ fit) in
       with_letter s u before l h.keeps.stands at later (forwards s l.state op rest holder) (Some (record { sender = sender; letter = Forward op kind rest ask_who holder })) (some (is_stopped l.state)) (λ t. makes_forward s before l at later t h.stands sender op holder kind rest ask_who up (not_true (list_any (λ t. is_forward_of op t.letter) l.taken) new) free)
     where
-      some : (b : Bool) → (forward_act op rest holder b).whats ≡ [] → false ≡ true
+      some : (b : Bool) → (forward_act s l.state op rest holder b).whats ≡ [] → false ≡ true
       some true e = absurd (let bad : what.Missed op ∷ [] ≡ [] = e in cc)
       some false e = gives_some (id_for l.state.ids == s.id_limit) (what.Sent (id_for l.state.ids) op rest) e
 
   leave_made : (now word : ℕ) (sender : PartName) (holder : OpName) → Makes s before l at (Some (record { sender = sender; letter = Leave holder })) (bind_act s l.state at (LetterFrom now word sender (Leave holder))).whats
   leave_made now word sender holder = with_letter s u before l h.keeps.stands at later (leaves l.state holder) (Some (record { sender = sender; letter = Leave holder })) (some (holds l.state holder && not l.state.down)) (λ t. makes_leave s before l at later t h.stands sender holder)
     where
-      leave_act : Bool → Act
-      leave_act b = elim b [ true ↦ goes_down l.state Unfinished | false ↦ act (what.Idle holder ∷ []) [] ]
-
-      some : (b : Bool) → (leave_act b).whats ≡ [] → false ≡ true
+      some : (b : Bool) → (leave_act l.state holder b).whats ≡ [] → false ≡ true
       some true e = absurd (let bad : what.Down Unfinished ∷ [] ≡ [] = e in cc)
       some false e = absurd (let bad : what.Idle holder ∷ [] ≡ [] = e in cc)
 

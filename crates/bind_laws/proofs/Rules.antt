@@ -26,7 +26,7 @@ use Rattle.lload_spec.specs.BadMessages.{is_bad}
 use Rattle.lload_spec.specs.OneEach.{begins_with_bind, is_own_bind, is_bind_due}
 use Rattle.part_spec.specs.Marked.{Marked, Taken, entries}
 use Rattle.part_spec.specs.Inputs.{Act, act, nothing}
-use Rattle.part_spec.specs.ConnectionState.{UpRow, is_bind, is_bind_row, is_stopped, is_under_own, is_abandoned_by, behind_message, freed_id, message_facts, row_named}
+use Rattle.part_spec.specs.ConnectionState.{UpRow, is_bind, is_bind_row, is_stopped, is_under_own, is_abandoned_by, behind_message, freed_id, message_facts, row_named, ConnectionState}
 use Rattle.part_spec.specs.ConnectionTurn.{giving, goes_down, is_due, retires}
 use Rattle.part_spec.specs.BindTurn.{link_up, message, answered, forwards, leaves, holds, expires, ticks, missed_letters}
 use Rattle.part_spec.specs.Fit.{ConnectionLedger, step_connection_ledger, is_forward_of, is_free_for}
@@ -42,6 +42,19 @@ use Rattle.connection_laws.proofs.Makes.{Makes, turn_of, chain_cons, giving_firs
 use Rattle.bind_laws.proofs.Lone.{BindStands, is_lone}
 use Rattle.bind_laws.proofs.Meets.{Answers, answers, not_own, bad_is_none, success_waits}
 use Rattle.connection_laws.proofs.OwnBinds.{is_single}
+
+-- The rules by their tests.
+abbrev pub message_act : Settings → ConnectionState → Message → Bool → Act
+message_act s p m b = elim b [ true ↦ goes_down p Bad | false ↦ answered s p m ]
+
+abbrev pub forward_act : Settings → ConnectionState → OpName → List ℕ → OpName → Bool → Act
+forward_act s p op rest holder b = elim b [ true ↦ act (what.Missed op ∷ []) (missed_letters p op holder) | false ↦ act (giving s (id_for p.ids) (what.Sent (id_for p.ids) op rest)) (retires s p (id_for p.ids)) ]
+
+abbrev pub leave_act : ConnectionState → OpName → Bool → Act
+leave_act p holder b = elim b [ true ↦ goes_down p Unfinished | false ↦ act (what.Idle holder ∷ []) [] ]
+
+abbrev pub tick_act : ConnectionState → Option UpRow → Act
+tick_act p o = elim o [ None ↦ nothing | Some r ↦ expires p r ]
 
 -- Who Am I abandons none
 pub who_names_none : (rows : List UpRow) → list_any (is_abandoned_by who_am_i) rows ≡ false
@@ -102,14 +115,11 @@ module _ (s : Settings) (before : List Marked) (l : ConnectionLedger) (at : ℕ)
     pub makes_message : Makes s before l at None (message s l.state m).whats
     makes_message = by (is_bad (message_facts l.state) m) refl
       where
-        taken_act : Bool → Act
-        taken_act b = elim b [ true ↦ goes_down l.state Bad | false ↦ answered s l.state m ]
-
         good : is_bad (message_facts l.state) m ≡ false → (b : Bool) → list_any (succeeds m) l.state.rows ≡ b → Answers s l.state b (answered s l.state m) → Makes s before l at None (what.Got m.id m.rest ∷ (answered s l.state m).whats)
         good e true k a = subst (λ x. Makes s before l at None (what.Got m.id m.rest ∷ x.whats)) (sym a) (got_success e k)
         good e false k a = subst (λ ws. Makes s before l at None (what.Got m.id m.rest ∷ ws)) (sym a) (got_alone e k)
 
-        by : (b : Bool) → is_bad (message_facts l.state) m ≡ b → Makes s before l at None (what.Got m.id m.rest ∷ (taken_act b).whats)
+        by : (b : Bool) → is_bad (message_facts l.state) m ≡ b → Makes s before l at None (what.Got m.id m.rest ∷ (message_act s l.state m b).whats)
         by true e = got_bad e
         by false e = good e (list_any (succeeds m) l.state.rows) refl (answers s l.state own h.lone m e)
 
@@ -122,14 +132,11 @@ module _ (s : Settings) (before : List Marked) (l : ConnectionLedger) (at : ℕ)
         mark : Option Taken
         mark = Some (record { sender = sender; letter = Forward op kind rest ask_who holder })
 
-        forward_act : Bool → Act
-        forward_act b = elim b [ true ↦ act (what.Missed op ∷ []) (missed_letters l.state op holder) | false ↦ act (giving s (id_for l.state.ids) (what.Sent (id_for l.state.ids) op rest)) (retires s l.state (id_for l.state.ids)) ]
-
         stopped_or : (a b : Bool) → (a || b) ≡ false → b ≡ false
         stopped_or true b e = absurd (let bad : true ≡ false = e in cc)
         stopped_or false b e = e
 
-        by : (b : Bool) → is_stopped l.state ≡ b → Makes s before l at (Some (record { sender = sender; letter = Forward op kind rest ask_who holder })) (forward_act b).whats
+        by : (b : Bool) → is_stopped l.state ≡ b → Makes s before l at (Some (record { sender = sender; letter = Forward op kind rest ask_who holder })) (forward_act s l.state op rest holder b).whats
         by true e = ((permit_missed s l.state.number before l at later linked mark op (both (same_op op op) _ (same_op_refl op) e) refl e, tt), (refl, refl, refl))
         by false e = gives_sent s before l at later linked (stopped_or l.state.retired l.state.down e) mark op rest (both (same_op op op && bytes_eq rest rest) _ (both (same_op op op) _ (same_op_refl op) (bytes_same rest)) (ap not e)) refl (ap (implies (is_bind l.state)) free ∙ implies_true (is_bind l.state)) up e new
 
@@ -140,9 +147,6 @@ module _ (s : Settings) (before : List Marked) (l : ConnectionLedger) (at : ℕ)
         mark : Option Taken
         mark = Some (record { sender = sender; letter = Leave holder })
 
-        leave_act : Bool → Act
-        leave_act b = elim b [ true ↦ goes_down l.state Unfinished | false ↦ act (what.Idle holder ∷ []) [] ]
-
         end_fits : holds l.state holder ≡ true → l.state.down ≡ false → (is_bind l.state && holds l.state holder && not l.state.down) ≡ true
         end_fits e d = both (is_bind l.state && holds l.state holder) _ (both (is_bind l.state) _ bind_is e) (ap not d)
 
@@ -152,7 +156,7 @@ module _ (s : Settings) (before : List Marked) (l : ConnectionLedger) (at : ℕ)
         nobody : l.state.down ≡ true → holds l.state holder ≡ false
         nobody d = ap (passes (same_op holder)) (h.gone d)
 
-        by : (a d : Bool) → holds l.state holder ≡ a → l.state.down ≡ d → Makes s before l at (Some (record { sender = sender; letter = Leave holder })) (leave_act (a && not d)).whats
+        by : (a d : Bool) → holds l.state holder ≡ a → l.state.down ≡ d → Makes s before l at (Some (record { sender = sender; letter = Leave holder })) (leave_act l.state holder (a && not d)).whats
         by true false e f = ((permit_end s l.state.number before l at later linked mark Unfinished (end_fits e f) refl f e, tt), (refl, refl, refl))
         by true true e f = absurd (let bad : true ≡ false = sym e ∙ nobody f in cc)
         by false d e f = idle_act (ap (λ b. b && not l.state.down) e) e
@@ -161,9 +165,6 @@ module _ (s : Settings) (before : List Marked) (l : ConnectionLedger) (at : ℕ)
   pub makes_tick : l.state.down ≡ false → Makes s before l at None (ticks s l.state at).whats
   makes_tick there = by l.state.rows refl h.lone
     where
-      tick_act : Option UpRow → Act
-      tick_act o = elim o [ None ↦ nothing | Some r ↦ expires l.state r ]
-
       expiry : (r : UpRow) → l.state.rows ≡ r ∷ [] → is_bind_row r ≡ true → is_due s at r ≡ true → Makes s before l at None (what.Expired r.op ∷ what.Down TimedOut ∷ [])
       expiry r e bind due = ((permit_expired s l.state.number before l at later linked r.op r (marked_up l.state.number at None (what.Down TimedOut) ∷ []) there (ap (find (λ q. same_op r.op q.op)) e ∙ ap (λ b. cond b (Some r) None) (same_op_refl r.op)) due (ap (λ b. if b then true else false) bind) refl refl refl, (permit_down s l.state.number place led at (le_same at) linked TimedOut refl there (or_left (is_bind l.state && last_passes (λ x. is_some (expired_op x.what)) (entries place)) _ (both (is_bind l.state) _ bind_is (ap (last_passes (λ x. is_some (expired_op x.what))) (push_entry before (marked_up l.state.number at None (what.Expired r.op))) ∙ ap (λ o. elim o [ None ↦ false | Some x ↦ is_some (expired_op x.what) ]) (last_push (entries before) (up_entry l.state.number at (what.Expired r.op)))))), tt)), (refl, refl, refl))
         where
@@ -173,11 +174,11 @@ module _ (s : Settings) (before : List Marked) (l : ConnectionLedger) (at : ℕ)
           place : List Marked
           place = before ++ marked_up l.state.number at None (what.Expired r.op) ∷ []
 
-      by : (rows : List UpRow) → l.state.rows ≡ rows → is_lone rows ≡ true → Makes s before l at None (tick_act (find (is_due s at) rows)).whats
+      by : (rows : List UpRow) → l.state.rows ≡ rows → is_lone rows ≡ true → Makes s before l at None (tick_act l.state (find (is_due s at) rows)).whats
       by [] e k = (tt, (refl, refl, refl))
       by (r ∷ []) e k = one (is_due s at r) refl
         where
-          one : (b : Bool) → is_due s at r ≡ b → Makes s before l at None (tick_act (cond b (Some r) None)).whats
+          one : (b : Bool) → is_due s at r ≡ b → Makes s before l at None (tick_act l.state (cond b (Some r) None)).whats
           one true due = expiry r e (left (is_bind_row r) _ k) due
           one false due = (tt, (refl, refl, refl))
       by (r ∷ q ∷ rows) e k = absurd (let bad : false ≡ true = k in cc)

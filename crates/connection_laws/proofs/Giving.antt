@@ -11,10 +11,10 @@ use Rattle.lload_names.specs.declared.names.What.{What}
 use Rattle.lload_names.specs.declared.names.What.TheVariants as what
 use Rattle.lload_spec.specs.Settings.{Settings, place_at}
 use Rattle.part_spec.specs.Marked.{Taken, Marked, entries}
-use Rattle.part_spec.specs.Inputs.{Act, act, nothing, also, entries_of, to, marked_by, letter_of, moment_for, moment_of}
+use Rattle.part_spec.specs.Inputs.{Act, act, nothing, also, entries_of, to, marked_by, letter_of, moment_for, moment_of, letters_alone}
 use Rattle.part_spec.specs.ConnectionState.{ConnectionState, step_connection, is_there}
 use Rattle.part_spec.specs.ConnectionTurn.{ended, giving, retires, goes_down, down_letters, behind_act, is_drained, with_drained, where_so, loss}
-use Rattle.part_spec.specs.Gives.{connection_gives, connection_letters}
+use Rattle.part_spec.specs.Gives.{connection_gives, connection_letters, got_letters}
 use Rattle.part_laws.proofs.ListLaws.{le_max}
 use Rattle.connection_laws.proofs.ConnectionSays.{number_step}
 use Rattle.connection_laws.proofs.Pieces.{up_entry, marked_up}
@@ -49,6 +49,14 @@ module _ (s : Settings) (u at : ℕ) where
       by : (b : Bool) → connection_gives s p (turn_of u at mark (whats b)) ≡ given ++ (elim b [ true ↦ to Desk (IsRetired p.number) | false ↦ [] ])
       by true = ap (λ l. l ++ to Desk (IsRetired (step_connection s p (marked_up u at mark w)).number)) e ∙ ap (λ n. given ++ to Desk (IsRetired n)) (number_step s (up_entry u at w) mark p w)
       by false = ap (λ l. l ++ []) e
+
+  -- a message that brings nothing more
+  pub alone_gives : (p : ConnectionState) (id : ℕ) (rest : List ℕ) (a : Act) → got_letters s p at (record { id = id; rest = rest }) ≡ letters_alone a → a.whats ≡ [] → GivesTurn s p u at None (what.Got id rest ∷ a.whats) a.letters
+  alone_gives p id rest a e n = by a.whats a.letters e n
+    where
+      by : (ws : List What) (letters : List Posted) → got_letters s p at (record { id = id; rest = rest }) ≡ letters_alone (act ws letters) → ws ≡ [] → GivesTurn s p u at None (what.Got id rest ∷ ws) letters
+      by [] letters k j = ap (λ l. l ++ []) k ∙ append-nil letters
+      by (w ∷ ws) letters k j = absurd (let no : w ∷ ws ≡ [] = j in cc)
 
 -- The end of a drained connection.
 drained_down : (q : ConnectionState) → is_drained q ≡ true → down_letters q ≡ to Desk (IsDown q.number)

@@ -40,7 +40,7 @@ use Rattle.connection_laws.proofs.Makes.{tail_none}
 use Rattle.connection_laws.proofs.Regular.{none_sound, and_not}
 use Rattle.connection_laws.proofs.RegularTurns.{bind_names_none}
 use Rattle.connection_laws.proofs.RegularRowsGive.{abandoned_none, one_abandoned, bad_rows, bad_other, down_same}
-use Rattle.connection_laws.proofs.Giving.{GivesTurn, giving_gives}
+use Rattle.connection_laws.proofs.Giving.{GivesTurn, giving_gives, alone_gives}
 
 not_left : (a b : Bool) → a ≡ false → (a && b) ≡ false
 not_left true b h = absurd (let bad : true ≡ false = h in cc)
@@ -90,14 +90,6 @@ module _ (s : Settings) (u at : ℕ) where
         by true e = refl
         by false e = bad_rows at m u place p.rows apart sound (λ x f. sym (ap (is_bad_for (message_facts p) m) f) ∙ bad_other p m e h)
 
-    -- a message that brings nothing more
-    alone_gives : (a : Act) → letters_by (is_bad (message_facts p) m) p.kind ≡ letters_alone a → a.whats ≡ [] → GivesTurn s p u at None (what.Got id rest ∷ a.whats) a.letters
-    alone_gives a e n = by a.whats a.letters e n
-      where
-        by : (ws : List What) (letters : List Posted) → letters_by (is_bad (message_facts p) m) p.kind ≡ letters_alone (act ws letters) → ws ≡ [] → GivesTurn s p u at None (what.Got id rest ∷ ws) letters
-        by [] letters k j = ap (λ l. l ++ []) k ∙ append-nil letters
-        by (w ∷ ws) letters k j = absurd (let no : w ∷ ws ≡ [] = j in cc)
-
     up_gives : letters_by (is_bad (message_facts p) m) p.kind ≡ [] → GivesTurn s p u at None (what.Got id rest ∷ what.Up ∷ []) (to Desk (IsUp p.number))
     up_gives e = ap (λ l. l ++ to Desk (IsUp p.number)) e
 
@@ -127,8 +119,8 @@ module _ (s : Settings) (u at : ℕ) where
         by : (c : Bool) → letters_by (is_bad (message_facts p) m) p.kind ≡ letters_alone (own_act c) → GivesTurn s p u at None (what.Got id rest ∷ (own_act c).whats) (own_act c).letters
         by true k = up_gives k
         by false k = down_gives OwnBindFailed k (ap (λ b. if b then p.rows else flat_map (behind_message at m) p.rows) under)
-    then_gives None false under e = alone_gives nothing e refl
-    then_gives (Some r) false under e = alone_gives (row_answer p at m r) e (reply_quiet r (is_final r.kind rest))
+    then_gives None false under e = alone_gives s u at p id rest nothing e refl
+    then_gives (Some r) false under e = alone_gives s u at p id rest (row_answer p at m r) e (reply_quiet r (is_final r.kind rest))
 
     pub message_gives : GivesTurn s p u at None (message p at m).whats (message p at m).letters
     message_gives = by (is_bad (message_facts p) m) refl
