@@ -24,7 +24,7 @@ use Rattle.lload_spec.specs.Journal.{same_op}
 use Rattle.lload_spec.specs.Identifiers.{id_for}
 use Rattle.lload_spec.specs.BadMessages.{is_bad}
 use Rattle.part_spec.specs.Marked.{Taken, entries}
-use Rattle.part_spec.specs.Inputs.{Act, act, nothing, entries_of, letters_alone, letter_of, failed}
+use Rattle.part_spec.specs.Inputs.{Act, act, entries_of, letters_alone, letter_of, failed}
 use Rattle.part_spec.specs.ConnectionState.{ConnectionState, UpRow, step_connection, is_stopped, is_there, message_facts}
 use Rattle.part_spec.specs.ConnectionTurn.{giving, retires, goes_down, down_letters, is_due, ended}
 use Rattle.part_spec.specs.RegularTurn.{answered as regular_answered, missed_letters as missed_regular_letters}

@@ -22,7 +22,7 @@ use Rattle.lload_spec.specs.Journal.{same_part}
 use Rattle.lload_spec.specs.Identifiers.{id_for}
 use Rattle.lload_spec.specs.OneEach.{begins_with_bind}
 use Rattle.part_spec.specs.Marked.{Marked, Taken, entries}
-use Rattle.part_spec.specs.Inputs.{Act, act, nothing, letter_of}
+use Rattle.part_spec.specs.Inputs.{Act, nothing, letter_of}
 use Rattle.part_spec.specs.ConnectionState.{ConnectionState, step_connection, is_there, is_bind, is_stopped}
 use Rattle.part_spec.specs.ConnectionTurn.{where_so, with_drained}
 use Rattle.part_spec.specs.RegularTurn.{regular_act}

@@ -8,7 +8,6 @@ use Rattle.ldap_spec.specs.Kinds.{same_kind, tag_of, fits, is_final, is_intermed
 use Rattle.ldap_spec.specs.Responses.{result_code, has_code}
 use Rattle.lload_names.specs.declared.names.OpKind.{OpKind}
 use Rattle.lload_names.specs.declared.names.OpKind.TheVariants.{Bind, Search, Modify, Add, Delete, ModifyDn, Compare, Extended}
-use Rattle.lload_names.specs.declared.names.What.{What}
 use Rattle.lload_spec.specs.Lists.{passes}
 use Rattle.lload_spec.specs.Settings.{Settings}
 use Rattle.lload_spec.specs.BadMessages.{is_bad, is_bad_other, is_bad_for, is_bad_answer, is_ignored}

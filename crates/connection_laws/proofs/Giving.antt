@@ -10,7 +10,7 @@ use Rattle.lload_names.specs.declared.names.Letter.TheVariants.{IsRetired, IsDow
 use Rattle.lload_names.specs.declared.names.What.{What}
 use Rattle.lload_names.specs.declared.names.What.TheVariants as what
 use Rattle.lload_spec.specs.Settings.{Settings, place_at}
-use Rattle.part_spec.specs.Marked.{Taken, Marked, entries}
+use Rattle.part_spec.specs.Marked.{Taken, Marked}
 use Rattle.part_spec.specs.Inputs.{Act, act, nothing, also, entries_of, to, marked_by, letter_of, moment_for, moment_of, letters_alone}
 use Rattle.part_spec.specs.ConnectionState.{ConnectionState, step_connection, is_there}
 use Rattle.part_spec.specs.ConnectionTurn.{ended, giving, retires, goes_down, down_letters, behind_act, is_drained, with_drained, where_so, loss}

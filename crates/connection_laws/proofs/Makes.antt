@@ -14,12 +14,12 @@ use Rattle.lload_spec.specs.Lists.{agrees, implies, first_passes}
 use Rattle.lload_spec.specs.Settings.{Settings, place_at}
 use Rattle.lload_spec.specs.Entries.{is_up, is_retired, is_down_by, is_own, same_why, is_down}
 use Rattle.part_spec.specs.Marks.{has_connection_mark}
-use Rattle.part_spec.specs.Inputs.{nothing, entries_of, marked_by}
+use Rattle.part_spec.specs.Inputs.{entries_of, marked_by}
 use Rattle.part_spec.specs.ConnectionState.{is_stopped, is_first_bind}
-use Rattle.part_spec.specs.ConnectionTurn.{giving, retires}
+use Rattle.part_spec.specs.ConnectionTurn.{giving}
 use Rattle.lload_spec.specs.Identifiers.{id_for}
 use Rattle.connection_laws.proofs.Pausings.{comes_rightly}
-use Rattle.part_spec.specs.Fit.{ConnectionLedger, step_connection_ledger, is_forward_of, ledger_behind as behind}
+use Rattle.part_spec.specs.Fit.{ConnectionLedger, step_connection_ledger, is_forward_of}
 use Rattle.part_spec.specs.Share.{has_reason, is_sent_once}
 use Rattle.part_spec.specs.Marked.{Marked, Taken, entries}
 use Rattle.lload_spec.proofs.Growth.{both}

@@ -27,11 +27,9 @@ use Rattle.part_spec.specs.Inputs.{Act, also, entries_of, letter_of, to, failed}
 use Rattle.part_spec.specs.ConnectionState.{ConnectionState, UpRow, step_connection, is_stopped, is_there, is_holding, row_named}
 use Rattle.part_spec.specs.ConnectionTurn.{ended, is_due, giving, goes_down, down_letters, where_so}
 use Rattle.part_spec.specs.RegularTurn.{regular_act, regular_rule, link_up, message, letter, drops, expires, expire, ticks, is_own_due}
-use Rattle.part_spec.specs.Turn.{connection_act}
 use Rattle.part_spec.specs.Gives.{connection_gives, connection_letters}
 use Rattle.part_spec.specs.Fit.{ConnectionLedger, empty_connection_ledger, step_connection_ledger, fits_connection, ledger_behind as behind}
 use Rattle.lload_spec.proofs.Growth.{left, right}
-use Rattle.part_laws.specs.Turns.{made}
 use Rattle.part_laws.proofs.Giving.{gives_more}
 use Rattle.part_laws.proofs.FitGiving.{fit_turns_give}
 use Rattle.connection_laws.specs.Turns.{connection_event, RegularGives}
@@ -44,7 +42,6 @@ use Rattle.connection_laws.proofs.RegularAlone.{Alone}
 use Rattle.connection_laws.proofs.RegularRowsGive.{abandoned_none}
 use Rattle.connection_laws.proofs.RegularGives.{link_gives, message_gives, forward_gives, drop_gives}
 use Rattle.connection_laws.proofs.RegularShare.{RegularKeeps, regular_act_is, forward_act, drop_act, stays, nothing_kept, event_keeps}
-use Rattle.part_spec.specs.BindTurn.{bind_act}
 use Rattle.connection_laws.proofs.Makes.{turn_of, tail_none}
 use Rattle.connection_laws.proofs.Through.{number_through}
 use Rattle.connection_laws.proofs.Rules.{gives_some}
