@@ -36,13 +36,9 @@ Stays r (q ∷ x ∷ xs) = ⊥
 under_one : (id : ℕ) (r : UpRow) → is_under id r ≡ true → is_under_who id r ≡ false
 under_one id r h = by r.kept (right (r.id == id) _ h)
   where
-    by : (o : Option Kept) → not (is_some o) ≡ true → passes (λ k. passes (λ who. who == id) k.who) o ≡ false
+    by : (o : Option Kept) → not (is_some o) ≡ true → passes (λ who. who == id) (elim o [ None ↦ None | Some k ↦ k.who ]) ≡ false
     by None k = refl
     by (Some x) k = absurd (let no : false ≡ true = k in cc)
-
-who_same : (id : ℕ) (o : Option Kept) → passes (λ who. who == id) (elim o [ None ↦ None | Some k ↦ k.who ]) ≡ passes (λ k. passes (λ who. who == id) k.who) o
-who_same id None = refl
-who_same id (Some k) = refl
 
 no_tag : (a b : Bool) → not (a || b) ≡ true → b ≡ false
 no_tag true b h = absurd (let no : false ≡ true = h in cc)
@@ -107,7 +103,7 @@ module _ (s : Settings) (p : ConnectionState) (own : p.own_bind ≡ None) (lone 
       let other : is_bad_for (message_facts p) m (cond (is_under m.id r) (Some (open_request r)) None) ≡ true = sym (ap bad_for e) ∙ bad_other p own m h in
       let none : (if list_any (bad.is_under_who m.id) (map open_request p.rows) then is_bad_who m else is_bad_stray (message_facts p) m) ≡ true = sym (ap (λ c. is_bad_for (message_facts p) m (cond c (Some (open_request r)) None)) f) ∙ other in
       let here : beside (bad.is_under_who m.id (open_request r)) ≡ true = sym (ap (λ rows. if list_any (bad.is_under_who m.id) (map open_request rows) then is_bad_who m else is_bad_stray (message_facts p) m) e) ∙ none in
-      no_tag (tag_of m.rest == 0x79) (tag_of m.rest == 0x78) (sym (ap beside (who_same m.id r.kept ∙ w)) ∙ here)
+      no_tag (tag_of m.rest == 0x79) (tag_of m.rest == 0x78) (sym (ap beside w) ∙ here)
 
   rows_lost : (rows : List UpRow) → p.rows ≡ rows → is_lone rows ≡ true → flat_map (loss p) (flat_map (behind_message at m) rows) ≡ flat_map (loss p) rows
   rows_lost [] e k = refl
