@@ -48,10 +48,10 @@ abbrev pub are_apart : List UpRow → Bool
 are_apart [] = true
 are_apart (r ∷ rows) = list_all (is_apart r) rows && are_apart rows
 
--- what a row becomes, under the same name and identifier if it stays
+-- what a row becomes, under the same name and identifier and of the same kind if it stays
 abbrev pub Shrinks : UpRow → List UpRow → Type 0
 Shrinks r [] = Unit {0}
-Shrinks r (q ∷ []) = (r.id ≡ q.id) × (r.op ≡ q.op)
+Shrinks r (q ∷ []) = (r.id ≡ q.id) × (r.op ≡ q.op) × (r.kind ≡ q.kind)
 Shrinks r (q ∷ x ∷ xs) = ⊥
 
 pub apart_one : (a r : UpRow) (rs : List UpRow) → Shrinks r rs → is_apart a r ≡ true → list_all (is_apart a) rs ≡ true
@@ -84,23 +84,23 @@ pub shrinks_message : (at : ℕ) (m : Message) (r : UpRow) → Shrinks r (behind
 shrinks_message at m r = under (is_under m.id r) (fits r.kind m.rest) (is_final r.kind m.rest) (is_bind_row r) (keeps_back r m.rest) (is_none (result_code m.rest)) (is_under_who m.id r) (tag_of m.rest == 0x78)
   where
     under : (a f g k b n w x : Bool) → Shrinks r (elim a [ true ↦ elim f [ false ↦ r ∷ [] | true ↦ elim g [ true ↦ elim k [ false ↦ [] | true ↦ elim b [ true ↦ record r { answered = at; kept = Some (record { rest = m.rest; who = None }) } ∷ [] | false ↦ elim n [ true ↦ record r { answered = at } ∷ [] | false ↦ [] ] ] ] | false ↦ record r { answered = at } ∷ [] ] ] | false ↦ elim w [ true ↦ elim x [ true ↦ [] | false ↦ record r { answered = at } ∷ [] ] | false ↦ r ∷ [] ] ])
-    under true false g k b n w x = (refl, refl)
-    under true true true true true n w x = (refl, refl)
-    under true true true true false true w x = (refl, refl)
+    under true false g k b n w x = (refl, refl, refl)
+    under true true true true true n w x = (refl, refl, refl)
+    under true true true true false true w x = (refl, refl, refl)
     under true true true true false false w x = tt
     under true true true false b n w x = tt
-    under true true false k b n w x = (refl, refl)
+    under true true false k b n w x = (refl, refl, refl)
     under false f g k b n true true = tt
-    under false f g k b n true false = (refl, refl)
-    under false f g k b n false x = (refl, refl)
+    under false f g k b n true false = (refl, refl, refl)
+    under false f g k b n false x = (refl, refl, refl)
 
 pub shrinks_own : (m : Message) (r : UpRow) → Shrinks r (behind_own m r)
 shrinks_own m r = by (bytes_eq m.rest who_am_i && passes (λ k. is_none k.who) r.kept) (not (is_bind_row r) && bytes_eq m.rest (abandon r.id))
   where
     by : (a b : Bool) → Shrinks r (elim a [ true ↦ record r { kept = elim r.kept [ None ↦ None | Some k ↦ Some (record k { who = Some m.id }) ] } ∷ [] | false ↦ elim b [ true ↦ [] | false ↦ r ∷ [] ] ])
-    by true b = (refl, refl)
+    by true b = (refl, refl, refl)
     by false true = tt
-    by false false = (refl, refl)
+    by false false = (refl, refl, refl)
 
 pub apart_filter : (t : UpRow → Bool) (rows : List UpRow) → are_apart rows ≡ true → are_apart (filter t rows) ≡ true
 apart_filter t [] h = refl

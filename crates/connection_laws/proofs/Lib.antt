@@ -5,6 +5,10 @@ pub mod Permits
 pub mod Clauses
 pub mod Pieces
 pub mod MorePieces
+pub mod Makes
+pub mod Through
+pub mod Rules
+pub mod Giving
 pub mod Rows
 pub mod Regular
 pub mod Apart

@@ -1,12 +1,12 @@
--- More entries of a regular connection's turns: what is sent, what comes, what expires, and pauses.
-use Rattle.std.proofs.Common.{◌≡◌, ℕ, Bool, true, false, ◌==◌, ◌&&◌, not, List, [], refl, ap, ◌∙◌}
-use Rattle.std.specs.Prelude.{Option, Some, None, nat_le, nat_lt, if◌then◌else◌}
+-- More entries of connections' turns: what is sent, what comes, what expires, and pauses.
+use Rattle.std.proofs.Common.{◌≡◌, ℕ, true, false, ◌==◌, ◌&&◌, not, List, [], refl, ap, ◌∙◌}
+use Rattle.std.specs.Prelude.{Option, Some, None, nat_le, nat_lt}
 use Rattle.std.specs.List.{list_any}
 use Rattle.ldap_spec.specs.Messages.{Message}
 use Rattle.ldap_spec.specs.Responses.{has_code}
 use Rattle.ldap_spec.specs.Bodies.{abandon, who_am_i}
 use Rattle.lload_names.specs.declared.names.OpName.{OpName}
-use Rattle.lload_names.specs.declared.names.EndWhy.TheVariants.{Bad, OwnBind, TimedOut}
+use Rattle.lload_names.specs.declared.names.EndWhy.TheVariants.{Bad, OwnBind}
 use Rattle.lload_names.specs.declared.names.PartName.{PartName}
 use Rattle.lload_names.specs.declared.names.PartName.TheVariants.{Client}
 use Rattle.lload_names.specs.declared.names.Letter.TheVariants.{Pause, Resume}
@@ -22,22 +22,22 @@ use Rattle.lload_spec.specs.Journal.{same_part}
 use Rattle.lload_spec.specs.Entries.{is_up, is_retired, is_down_by, is_own}
 use Rattle.lload_spec.specs.OneEach.{begins_with_bind, is_own_bind}
 use Rattle.part_spec.specs.Marks.{has_connection_mark}
-use Rattle.part_spec.specs.ConnectionState.{UpRow, is_stopped, is_bind, is_first_bind, row_named, is_bind_row, is_there, is_holding, message_facts}
+use Rattle.part_spec.specs.ConnectionState.{UpRow, is_stopped, is_first_bind, row_named, is_there, is_holding, message_facts}
 use Rattle.part_spec.specs.ConnectionTurn.{is_due}
 use Rattle.part_spec.specs.Fit.{ConnectionLedger, is_forward_of}
-use Rattle.part_spec.specs.Share.{is_who_due, has_reason, is_expiry_told}
+use Rattle.part_spec.specs.Share.{is_who_due, has_reason, is_expiry_told, is_sent_once}
 use Rattle.part_spec.specs.Marked.{Marked, Taken, entries}
 use Rattle.lload_spec.proofs.Growth.{both}
 use Rattle.part_laws.proofs.ListLaws.{eqb_same}
 use Rattle.connection_laws.proofs.OwnBinds.{is_second_bind}
 use Rattle.connection_laws.proofs.Permits.{Permit, is_own_answer}
 use Rattle.connection_laws.proofs.Pausings.{comes_rightly}
-use Rattle.connection_laws.proofs.Pieces.{up_entry, marked_up, not_due, where_taken, not_held, agrees_same, implies_true, no_name, goes_on, no_message_due}
+use Rattle.connection_laws.proofs.Pieces.{up_entry, marked_up, not_due, where_taken, agrees_same, implies_true, no_name, goes_on, no_message_due}
 
 -- Entries, each alone. The connection is linked.
 module _ (s : Settings) (u : ℕ) (before : List Marked) (l : ConnectionLedger) (at : ℕ) (later : nat_le l.state.moment at ≡ true) (linked : l.state.linked ≡ true) where
-  pub permit_sent : (mark : Option Taken) (op : OpName) (rest : List ℕ) (d : List Marked) → has_connection_mark l.state (marked_up u at mark (what.Sent (id_for l.state.ids) op rest)) ≡ true → comes_rightly mark ≡ true → is_bind l.state ≡ false → l.state.up ≡ true → l.state.down ≡ false → is_stopped l.state ≡ false → list_any (λ t. is_forward_of op t.letter) l.taken ≡ false → first_passes (λ e. is_up e.what) (entries d) ≡ false → first_passes (λ e. is_retired e.what) (entries d) ≡ ((id_for l.state.ids) == s.id_limit) → first_passes (is_down_by OwnBind) (entries d) ≡ false → Permit s before l (marked_up u at mark (what.Sent (id_for l.state.ids) op rest)) d
-  permit_sent mark op rest d fitting fair regular up there going new no_up limit no_own =
+  pub permit_sent : (mark : Option Taken) (op : OpName) (rest : List ℕ) (d : List Marked) → has_connection_mark l.state (marked_up u at mark (what.Sent (id_for l.state.ids) op rest)) ≡ true → comes_rightly mark ≡ true → is_sent_once l.state [] (marked_up u at mark (what.Sent (id_for l.state.ids) op rest)) ≡ true → l.state.up ≡ true → l.state.down ≡ false → is_stopped l.state ≡ false → list_any (λ t. is_forward_of op t.letter) l.taken ≡ false → first_passes (λ e. is_up e.what) (entries d) ≡ false → first_passes (λ e. is_retired e.what) (entries d) ≡ ((id_for l.state.ids) == s.id_limit) → first_passes (is_down_by OwnBind) (entries d) ≡ false → Permit s before l (marked_up u at mark (what.Sent (id_for l.state.ids) op rest)) d
+  permit_sent mark op rest d fitting fair free up there going new no_up limit no_own =
       record {
         later = later;
         fitting = fitting;
@@ -51,7 +51,7 @@ module _ (s : Settings) (u : ℕ) (before : List Marked) (l : ConnectionLedger) 
         waits = refl;
         stopped = ap not going;
         fresh = ap not new;
-        free = not_held (is_bind l.state) _ regular;
+        free = free;
         first = refl;
         idle = refl;
         expired = refl;
@@ -94,8 +94,8 @@ module _ (s : Settings) (u : ℕ) (before : List Marked) (l : ConnectionLedger) 
         down = refl;
       }
 
-  pub permit_expired : (op : OpName) (r : UpRow) (rest : List ℕ) (d : List Marked) → l.state.down ≡ false → row_named l.state op ≡ Some r → is_due s at r ≡ true → is_bind_row r ≡ false → first_passes (is_own (abandon r.id)) (entries d) ≡ true → first_passes (λ e. is_up e.what) (entries d) ≡ false → first_passes (λ e. is_retired e.what) (entries d) ≡ false → first_passes (is_down_by OwnBind) (entries d) ≡ false → Permit s before l (marked_up u at None (what.Expired op)) d
-  permit_expired op r rest d there named due kind told no_up no_retired no_own =
+  pub permit_expired : (op : OpName) (r : UpRow) (d : List Marked) → l.state.down ≡ false → row_named l.state op ≡ Some r → is_due s at r ≡ true → is_expiry_told (entries d) r ≡ true → first_passes (λ e. is_up e.what) (entries d) ≡ false → first_passes (λ e. is_retired e.what) (entries d) ≡ false → first_passes (is_down_by OwnBind) (entries d) ≡ false → Permit s before l (marked_up u at None (what.Expired op)) d
+  permit_expired op r d there named due told no_up no_retired no_own =
       record {
         later = later;
         fitting = refl;
@@ -112,7 +112,7 @@ module _ (s : Settings) (u : ℕ) (before : List Marked) (l : ConnectionLedger) 
         free = refl;
         first = refl;
         idle = refl;
-        expired = ap (passes (λ q. is_due s at q && is_expiry_told (entries d) q)) named ∙ both (is_due s at r) _ due (told_by (is_bind_row r) kind);
+        expired = ap (passes (λ q. is_due s at q && is_expiry_told (entries d) q)) named ∙ both (is_due s at r) _ due told;
         bad = refl;
         due = no_message_due s u before l at later linked d;
         ups = ap (agrees false) no_up;
@@ -122,13 +122,9 @@ module _ (s : Settings) (u : ℕ) (before : List Marked) (l : ConnectionLedger) 
         named = λ i j. no_name j;
         down = refl;
       }
-    where
-      told_by : (b : Bool) → b ≡ false → (if b then first_passes (is_down_by TimedOut) (entries d) else first_passes (is_own (abandon r.id)) (entries d)) ≡ true
-      told_by true j = absurd (let bad : true ≡ false = j in cc)
-      told_by false j = told
 
-  pub permit_got : (m : Message) (d : List Marked) → l.state.down ≡ false → is_waiting l.state.waiting ≡ false → is_who_due l.state (up_entry u at (what.Got m.id m.rest)) ≡ false → implies (is_bad (message_facts l.state) m) (first_passes (is_down_by Bad) (entries d)) ≡ true → agrees (is_own_answer l.state (has_code 0) (what.Got m.id m.rest)) (first_passes (λ e. is_up e.what) (entries d)) ≡ true → first_passes (λ e. is_retired e.what) (entries d) ≡ false → agrees (is_own_answer l.state (λ r. not (has_code 0 r)) (what.Got m.id m.rest)) (first_passes (is_down_by OwnBind) (entries d)) ≡ true → Permit s before l (marked_up u at None (what.Got m.id m.rest)) d
-  permit_got m d there free no_who bad up no_retired own =
+  pub permit_got : (m : Message) (d : List Marked) → l.state.down ≡ false → is_waiting l.state.waiting ≡ false → implies (is_who_due l.state (up_entry u at (what.Got m.id m.rest))) (first_passes (is_own who_am_i) (entries d)) ≡ true → implies (is_bad (message_facts l.state) m) (first_passes (is_down_by Bad) (entries d)) ≡ true → agrees (is_own_answer l.state (has_code 0) (what.Got m.id m.rest)) (first_passes (λ e. is_up e.what) (entries d)) ≡ true → first_passes (λ e. is_retired e.what) (entries d) ≡ false → agrees (is_own_answer l.state (λ r. not (has_code 0 r)) (what.Got m.id m.rest)) (first_passes (is_down_by OwnBind) (entries d)) ≡ true → Permit s before l (marked_up u at None (what.Got m.id m.rest)) d
+  permit_got m d there free who bad up no_retired own =
       record {
         later = later;
         fitting = refl;
@@ -147,7 +143,7 @@ module _ (s : Settings) (u : ℕ) (before : List Marked) (l : ConnectionLedger) 
         idle = refl;
         expired = refl;
         bad = where_taken (is_bad (message_facts l.state) m) (is_there l.state) (not (is_holding l.state)) _ bad;
-        due = both (implies (begins_with_bind s l.state.number && false) (first_passes (is_own_bind s) (entries d))) _ (not_due (begins_with_bind s l.state.number) (first_passes (is_own_bind s) (entries d))) (ap (λ b. implies b (first_passes (is_own who_am_i) (entries d))) no_who);
+        due = both (implies (begins_with_bind s l.state.number && false) (first_passes (is_own_bind s) (entries d))) _ (not_due (begins_with_bind s l.state.number) (first_passes (is_own_bind s) (entries d))) who;
         ups = up;
         retires = ap (agrees false) no_retired;
         own_ends = own;

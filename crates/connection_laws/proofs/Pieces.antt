@@ -1,31 +1,29 @@
--- The entries that a regular connection's turns are made of, each permitted where its rule makes it.
+-- The entries that the turns of connections of both kinds are made of, each permitted where its rule makes it.
 use Rattle.std.proofs.Common.{◌≡◌, ℕ, Bool, true, false, ◌&&◌, not, List, [], ◌∷◌, ◌++◌, refl, ap, ◌∙◌, sym, subst, append_assoc}
-use Rattle.std.specs.Prelude.{Option, Some, None, is_none, nat_le, if◌then◌else◌}
+use Rattle.std.specs.Prelude.{Option, None, is_none, nat_le}
 use Rattle.std.proofs.lemmas.List.{append-nil, map-append}
 use Rattle.ldap_spec.specs.Responses.{has_code}
 use Rattle.lload_names.specs.declared.names.Entry.{Entry}
 use Rattle.lload_names.specs.declared.names.OpName.{OpName}
 use Rattle.lload_names.specs.declared.names.EndWhy.{EndWhy}
 use Rattle.lload_names.specs.declared.names.EndWhy.TheVariants.{OwnBind, Unfinished}
-use Rattle.lload_names.specs.declared.names.PartName.{PartName}
 use Rattle.lload_names.specs.declared.names.PartName.TheVariants.{Up as Connection}
-use Rattle.lload_names.specs.declared.names.Letter.TheVariants.{Drop}
 use Rattle.lload_names.specs.declared.names.What.{What}
 use Rattle.lload_names.specs.declared.names.What.TheVariants as what
-use Rattle.lload_spec.specs.Lists.{passes, first_passes, agrees, implies}
+use Rattle.lload_spec.specs.Lists.{first_passes, agrees, implies}
 use Rattle.lload_spec.specs.Settings.{Settings}
-use Rattle.lload_spec.specs.Journal.{same_op}
 use Rattle.lload_spec.specs.Entries.{is_up, is_retired, is_down_by, same_why}
 use Rattle.lload_spec.specs.OneEach.{begins_with_bind, is_own_bind}
 use Rattle.part_spec.specs.Marks.{has_connection_mark}
-use Rattle.part_spec.specs.ConnectionState.{is_stopped, is_bind, row_named}
+use Rattle.part_spec.specs.ConnectionState.{is_stopped}
 use Rattle.part_spec.specs.Fit.{ConnectionLedger, step_connection_ledger, ledger_behind as behind}
 use Rattle.part_spec.specs.Marked.{Marked, Taken, entries}
 use Rattle.lload_spec.proofs.Growth.{both}
-use Rattle.part_laws.proofs.ListLaws.{first_same, same_op_refl}
+use Rattle.part_laws.proofs.ListLaws.{first_same}
 use Rattle.connection_laws.proofs.Permits.{Permit, Chain, is_own_answer, brings_up, gives_limit, ends_for}
 use Rattle.connection_laws.proofs.Pausings.{comes_rightly}
 use Rattle.connection_laws.proofs.Clauses.{Opens, due_stays, expired_stays, bad_stays}
+use Rattle.part_spec.specs.Share.{is_idle_caused}
 
 -- tests with a part that is known
 pub not_due : (b c : Bool) → implies (b && false) c ≡ true
@@ -107,18 +105,18 @@ module _ (s : Settings) (u : ℕ) (before : List Marked) (l : ConnectionLedger) 
   pub no_message_due : (d : List Marked) → (implies (begins_with_bind s l.state.number && false) (first_passes (is_own_bind s) (entries d)) && true) ≡ true
   no_message_due d = both (implies (begins_with_bind s l.state.number && false) (first_passes (is_own_bind s) (entries d))) true (not_due (begins_with_bind s l.state.number) (first_passes (is_own_bind s) (entries d))) refl
 
-  pub permit_down : (why : EndWhy) → same_why why Unfinished ≡ false → l.state.down ≡ false → ends_for s l.state (entries before) (marked_up u at None (what.Down why)) why ≡ true → Permit s before l (marked_up u at None (what.Down why)) []
-  permit_down why own there cause =
+  pub permit_end : (mark : Option Taken) (why : EndWhy) → has_connection_mark l.state (marked_up u at mark (what.Down why)) ≡ true → comes_rightly mark ≡ true → l.state.down ≡ false → ends_for s l.state (entries before) (marked_up u at mark (what.Down why)) why ≡ true → Permit s before l (marked_up u at mark (what.Down why)) []
+  permit_end mark why fitting fair there cause =
       record {
         later = later;
-        fitting = ap not own;
+        fitting = fitting;
         of_connection = refl;
         begun = goes_on;
         alive = ap (λ b. implies b false) there;
         up = refl;
         id_right = refl;
         passed = refl;
-        paused = refl;
+        paused = fair;
         waits = refl;
         stopped = refl;
         fresh = refl;
@@ -135,6 +133,10 @@ module _ (s : Settings) (u : ℕ) (before : List Marked) (l : ConnectionLedger) 
         named = λ i j. no_name j;
         down = cause;
       }
+
+  -- an end that no letter brings
+  pub permit_down : (why : EndWhy) → same_why why Unfinished ≡ false → l.state.down ≡ false → ends_for s l.state (entries before) (marked_up u at None (what.Down why)) why ≡ true → Permit s before l (marked_up u at None (what.Down why)) []
+  permit_down why own there cause = permit_end None why (ap not own) refl there cause
 
   pub permit_up : l.state.own_bind ≡ None → l.state.down ≡ false → Permit s before l (marked_up u at None what.Up) []
   permit_up own there =
@@ -194,24 +196,24 @@ module _ (s : Settings) (u : ℕ) (before : List Marked) (l : ConnectionLedger) 
         down = refl;
       }
 
-  pub permit_idle : (sender : PartName) (op : OpName) → is_bind l.state ≡ false → row_named l.state op ≡ None → Permit s before l (marked_up u at (Some (record { sender = sender; letter = Drop op })) (what.Idle op)) []
-  permit_idle sender op regular none =
+  pub permit_idle : (mark : Option Taken) (op : OpName) → has_connection_mark l.state (marked_up u at mark (what.Idle op)) ≡ true → comes_rightly mark ≡ true → is_idle_caused l.state (marked_up u at mark (what.Idle op)) ≡ true → Permit s before l (marked_up u at mark (what.Idle op)) []
+  permit_idle mark op fitting fair idle =
       record {
         later = later;
-        fitting = both (same_op op op) _ (same_op_refl op) (ap is_none none);
+        fitting = fitting;
         of_connection = refl;
         begun = goes_on;
         alive = implies_true l.state.down;
         up = refl;
         id_right = refl;
         passed = refl;
-        paused = refl;
+        paused = fair;
         waits = refl;
         stopped = refl;
         fresh = refl;
         free = refl;
         first = refl;
-        idle = ap (λ b. if b then not (passes (same_op op) l.state.holder) else is_none (row_named l.state op)) regular ∙ ap is_none none;
+        idle = idle;
         expired = refl;
         bad = refl;
         due = no_message_due [];

@@ -1,78 +1,30 @@
 -- The rules of a regular connection: each makes a turn of permitted entries.
 use Rattle.std.proofs.Common.{◌≡◌, ℕ, Bool, true, false, ◌==◌, ◌&&◌, ◌||◌, not, List, [], ◌∷◌, ◌++◌, refl, ap, ◌∙◌, sym, subst}
-use Rattle.std.specs.Prelude.{Option, Some, None, find, nat_le, nat_lt, if◌then◌else◌}
+use Rattle.std.specs.Prelude.{Option, Some, None, find, nat_le, if◌then◌else◌}
 use Rattle.std.specs.List.{list_any, list_all}
 use Rattle.ldap_spec.specs.Messages.{Message}
 use Rattle.ldap_spec.specs.Kinds.{tag_of, is_final}
 use Rattle.ldap_spec.specs.Responses.{has_code}
-use Rattle.ldap_spec.specs.Bodies.{abandon}
 use Rattle.lload_names.specs.declared.names.Entry.{Entry}
-use Rattle.lload_names.specs.declared.names.OpName.{OpName}
-use Rattle.lload_names.specs.declared.names.EndWhy.{EndWhy}
-use Rattle.lload_names.specs.declared.names.EndWhy.TheVariants.{Bad, OwnBind as OwnBindFailed, Unfinished}
-use Rattle.lload_names.specs.declared.names.PartName.TheVariants.{Up as Connection}
-use Rattle.lload_names.specs.declared.names.What.{What}
+use Rattle.lload_names.specs.declared.names.EndWhy.TheVariants.{Bad, OwnBind as OwnBindFailed}
 use Rattle.lload_names.specs.declared.names.What.TheVariants as what
 use Rattle.lload_spec.specs.Lists.{passes, agrees, implies}
 use Rattle.lload_spec.specs.Settings.{Settings}
-use Rattle.lload_spec.specs.Entries.{is_up, is_retired, is_down_by, is_own, same_why}
-use Rattle.part_spec.specs.Marks.{has_connection_mark}
-use Rattle.part_spec.specs.Inputs.{Act, act, nothing, entries_of, marked_by, reply}
-use Rattle.part_spec.specs.ConnectionState.{UpRow, is_stopped, is_bind, is_first_bind, is_bind_row, is_under, is_under_own, OwnWait, keeps_back, message_facts}
-use Rattle.part_spec.specs.ConnectionTurn.{giving, goes_down, comes_up, latency, ended}
+use Rattle.part_spec.specs.Inputs.{Act, act, nothing, reply}
+use Rattle.part_spec.specs.ConnectionState.{UpRow, is_bind_row, is_under, is_under_own, OwnWait, keeps_back, message_facts}
+use Rattle.part_spec.specs.ConnectionTurn.{goes_down, comes_up, latency, ended}
 use Rattle.lload_spec.specs.BadMessages.{is_bad, is_bad_other, is_ignored}
-use Rattle.lload_spec.specs.Identifiers.{id_for}
 use Rattle.lload_spec.specs.Pauses.{is_waiting}
-use Rattle.connection_laws.proofs.Pausings.{comes_rightly}
 use Rattle.part_spec.specs.RegularTurn.{own_answer, row_answer, answered, message}
-use Rattle.part_spec.specs.Fit.{ConnectionLedger, step_connection_ledger, is_forward_of}
-use Rattle.part_spec.specs.Share.{has_reason, is_who_due, succeeds}
-use Rattle.part_spec.specs.Marked.{Marked, Taken, entries}
+use Rattle.part_spec.specs.Fit.{ConnectionLedger, step_connection_ledger}
+use Rattle.part_spec.specs.Share.{is_who_due, succeeds}
+use Rattle.part_spec.specs.Marked.{Marked, entries}
 use Rattle.lload_spec.proofs.Growth.{left, right}
 use Rattle.part_laws.proofs.ListLaws.{not_true, same_number, le_same}
-use Rattle.connection_laws.proofs.OwnBinds.{is_second_bind}
-use Rattle.connection_laws.proofs.Permits.{Chain, ends_for}
-use Rattle.connection_laws.proofs.Clauses.{Opens}
 use Rattle.connection_laws.proofs.Rows.{is_sound, no_bind}
-use Rattle.connection_laws.proofs.Pieces.{implies_true, up_entry, marked_up, permit_down, permit_up, permit_retired}
-use Rattle.connection_laws.proofs.MorePieces.{permit_sent, permit_own, permit_got}
-
--- the entries of a turn
-abbrev pub turn_of : ℕ → ℕ → Option Taken → List What → List Marked
-turn_of u at mark ws = marked_by mark (entries_of (Connection u) at ws)
-
--- what a rule makes is a turn of permitted entries
-abbrev pub Makes : Settings → List Marked → ConnectionLedger → ℕ → Option Taken → List What → Type 0
-Makes s before l at mark ws = Chain s before l (turn_of l.state.number at mark ws) × Opens (turn_of l.state.number at mark ws)
-
-opens_quiet : (m : Marked) (ms : List Marked) → is_up m.entry.what ≡ false → is_retired m.entry.what ≡ false → is_down_by OwnBindFailed m.entry ≡ false → Opens (m ∷ ms)
-opens_quiet m ms a b c = (a, b, c)
-
--- An identifier is given, with Retired behind it where it is the limit.
-module _ (s : Settings) (before : List Marked) (l : ConnectionLedger) (at : ℕ) (later : nat_le l.state.moment at ≡ true) (linked : l.state.linked ≡ true) (there : l.state.down ≡ false) where
-  pub gives_own : (mark : Option Taken) (rest : List ℕ) → has_connection_mark l.state (marked_up l.state.number at mark (what.Own l.state.ids.next rest)) ≡ true → comes_rightly mark ≡ true → is_first_bind s l.state (up_entry l.state.number at (what.Own l.state.ids.next rest)) ≡ is_second_bind s l.state.number (entries before) (up_entry l.state.number at (what.Own l.state.ids.next rest)) → has_reason s l.state (entries before) (marked_up l.state.number at mark (what.Own l.state.ids.next rest)) ≡ true → ((i : ℕ) → is_own (abandon i) (up_entry l.state.number at (what.Own l.state.ids.next rest)) ≡ true → (list_any (is_own (abandon i)) (entries before) ≡ false) × (nat_lt i l.state.ids.next ≡ true) × (list_any (λ n. n == i) l.state.ids.free ≡ false)) → Makes s before l at mark (giving s l.state.ids.next (what.Own l.state.ids.next rest))
-  gives_own mark rest fitting fair first reason named = by (l.state.ids.next == s.id_limit) refl
-    where
-      u : ℕ
-      u = l.state.number
-
-      by : (b : Bool) → (l.state.ids.next == s.id_limit) ≡ b → Makes s before l at mark (elim b [ true ↦ what.Own l.state.ids.next rest ∷ what.Retired ∷ [] | false ↦ what.Own l.state.ids.next rest ∷ [] ])
-      by true e = ((permit_own s u before l at later linked mark rest (marked_up u at None what.Retired ∷ []) fitting fair there first reason named refl (sym e) refl, (permit_retired s u (before ++ marked_up u at mark (what.Own l.state.ids.next rest) ∷ []) (step_connection_ledger s l (marked_up u at mark (what.Own l.state.ids.next rest))) at (le_same at) linked there, tt)), (refl, refl, refl))
-      by false e = ((permit_own s u before l at later linked mark rest [] fitting fair there first reason named refl (sym e) refl, tt), (refl, refl, refl))
-
-  pub gives_sent : (mark : Option Taken) (op : OpName) (rest : List ℕ) → has_connection_mark l.state (marked_up l.state.number at mark (what.Sent (id_for l.state.ids) op rest)) ≡ true → comes_rightly mark ≡ true → is_bind l.state ≡ false → l.state.up ≡ true → is_stopped l.state ≡ false → list_any (λ t. is_forward_of op t.letter) l.taken ≡ false → Makes s before l at mark (giving s (id_for l.state.ids) (what.Sent (id_for l.state.ids) op rest))
-  gives_sent mark op rest fitting fair regular up going new = by ((id_for l.state.ids) == s.id_limit) refl
-    where
-      u : ℕ
-      u = l.state.number
-
-      by : (b : Bool) → ((id_for l.state.ids) == s.id_limit) ≡ b → Makes s before l at mark (elim b [ true ↦ what.Sent (id_for l.state.ids) op rest ∷ what.Retired ∷ [] | false ↦ what.Sent (id_for l.state.ids) op rest ∷ [] ])
-      by true e = ((permit_sent s u before l at later linked mark op rest (marked_up u at None what.Retired ∷ []) fitting fair regular up there going new refl (sym e) refl, (permit_retired s u (before ++ marked_up u at mark (what.Sent (id_for l.state.ids) op rest) ∷ []) (step_connection_ledger s l (marked_up u at mark (what.Sent (id_for l.state.ids) op rest))) at (le_same at) linked there, tt)), (refl, refl, refl))
-      by false e = ((permit_sent s u before l at later linked mark op rest [] fitting fair regular up there going new refl (sym e) refl, tt), (refl, refl, refl))
-
-  -- the connection goes down
-  pub makes_down : (why : EndWhy) → same_why why Unfinished ≡ false → is_down_by OwnBindFailed (up_entry l.state.number at (what.Down why)) ≡ false → ends_for s l.state (entries before) (marked_up l.state.number at None (what.Down why)) why ≡ true → Makes s before l at None (what.Down why ∷ [])
-  makes_down why own other cause = ((permit_down s l.state.number before l at later linked why own there cause, tt), (refl, refl, other))
+use Rattle.connection_laws.proofs.Pieces.{implies_true, up_entry, marked_up, permit_down, permit_up}
+use Rattle.connection_laws.proofs.MorePieces.{permit_got}
+use Rattle.connection_laws.proofs.Makes.{Makes}
 
 -- A message.
 
@@ -95,20 +47,23 @@ module _ (s : Settings) (u : ℕ) (before : List Marked) (l : ConnectionLedger) 
   no_who : is_who_due l.state (up_entry l.state.number at (what.Got m.id m.rest)) ≡ false
   no_who = none_sound u (entries before) (succeeds m) l.state.rows (λ r k. and_not (is_under m.id r) (is_final r.kind m.rest && (is_bind_row r && keeps_back r m.rest)) (ap not (and_not (is_final r.kind m.rest) (is_bind_row r && keeps_back r m.rest) (ap (λ b. not (b && keeps_back r m.rest)) (not_true (is_bind_row r) (no_bind u (entries before) r k)))))) sound
 
+  no_who_due : (b : Bool) → implies (is_who_due l.state (up_entry l.state.number at (what.Got m.id m.rest))) b ≡ true
+  no_who_due b = ap (λ c. implies c b) no_who
+
   abbrev answers_by : (List ℕ → Bool) → Bool
   answers_by test = is_under_own l.state m.id && tag_of m.rest == 0x61 && test m.rest
 
   got_alone : is_bad (message_facts l.state) m ≡ false → answers_by (has_code 0) ≡ false → answers_by (λ r. not (has_code 0 r)) ≡ false → Makes s before l at None (what.Got m.id m.rest ∷ [])
-  got_alone good a b = ((permit_got s l.state.number before l at later linked m [] there free no_who (ap (λ c. implies c false) good) (ap (λ c. agrees c false) a) refl (ap (λ c. agrees c false) b), tt), (refl, refl, refl))
+  got_alone good a b = ((permit_got s l.state.number before l at later linked m [] there free (no_who_due _) (ap (λ c. implies c false) good) (ap (λ c. agrees c false) a) refl (ap (λ c. agrees c false) b), tt), (refl, refl, refl))
 
   got_up : is_bad (message_facts l.state) m ≡ false → answers_by (has_code 0) ≡ true → answers_by (λ r. not (has_code 0 r)) ≡ false → Makes s before l at None (what.Got m.id m.rest ∷ what.Up ∷ [])
-  got_up good a b = ((permit_got s l.state.number before l at later linked m (marked_up l.state.number at None what.Up ∷ []) there free no_who (ap (λ c. implies c false) good) (ap (λ c. agrees c true) a) refl (ap (λ c. agrees c false) b), (permit_up s l.state.number (before ++ marked_up l.state.number at None (what.Got m.id m.rest) ∷ []) (step_connection_ledger s l (marked_up l.state.number at None (what.Got m.id m.rest))) at (le_same at) linked (ap (λ c. if c then None else l.state.own_bind) (left (is_under_own l.state m.id) _ (left (is_under_own l.state m.id && tag_of m.rest == 0x61) _ a))) there, tt)), (refl, refl, refl))
+  got_up good a b = ((permit_got s l.state.number before l at later linked m (marked_up l.state.number at None what.Up ∷ []) there free (no_who_due _) (ap (λ c. implies c false) good) (ap (λ c. agrees c true) a) refl (ap (λ c. agrees c false) b), (permit_up s l.state.number (before ++ marked_up l.state.number at None (what.Got m.id m.rest) ∷ []) (step_connection_ledger s l (marked_up l.state.number at None (what.Got m.id m.rest))) at (le_same at) linked (ap (λ c. if c then None else l.state.own_bind) (left (is_under_own l.state m.id) _ (left (is_under_own l.state m.id && tag_of m.rest == 0x61) _ a))) there, tt)), (refl, refl, refl))
 
   got_bad : answers_by (has_code 0) ≡ false → answers_by (λ r. not (has_code 0 r)) ≡ false → Makes s before l at None (what.Got m.id m.rest ∷ what.Down Bad ∷ [])
-  got_bad a b = ((permit_got s l.state.number before l at later linked m (marked_up l.state.number at None (what.Down Bad) ∷ []) there free no_who (implies_true (is_bad (message_facts l.state) m)) (ap (λ c. agrees c false) a) refl (ap (λ c. agrees c false) b), (permit_down s l.state.number (before ++ marked_up l.state.number at None (what.Got m.id m.rest) ∷ []) (step_connection_ledger s l (marked_up l.state.number at None (what.Got m.id m.rest))) at (le_same at) linked Bad refl there refl, tt)), (refl, refl, refl))
+  got_bad a b = ((permit_got s l.state.number before l at later linked m (marked_up l.state.number at None (what.Down Bad) ∷ []) there free (no_who_due _) (implies_true (is_bad (message_facts l.state) m)) (ap (λ c. agrees c false) a) refl (ap (λ c. agrees c false) b), (permit_down s l.state.number (before ++ marked_up l.state.number at None (what.Got m.id m.rest) ∷ []) (step_connection_ledger s l (marked_up l.state.number at None (what.Got m.id m.rest))) at (le_same at) linked Bad refl there refl, tt)), (refl, refl, refl))
 
   got_own : is_bad (message_facts l.state) m ≡ false → answers_by (has_code 0) ≡ false → answers_by (λ r. not (has_code 0 r)) ≡ true → Makes s before l at None (what.Got m.id m.rest ∷ what.Down OwnBindFailed ∷ [])
-  got_own good a b = ((permit_got s l.state.number before l at later linked m (marked_up l.state.number at None (what.Down OwnBindFailed) ∷ []) there free no_who (ap (λ c. implies c false) good) (ap (λ c. agrees c false) a) refl (ap (λ c. agrees c true) b), (permit_down s l.state.number (before ++ marked_up l.state.number at None (what.Got m.id m.rest) ∷ []) (step_connection_ledger s l (marked_up l.state.number at None (what.Got m.id m.rest))) at (le_same at) linked OwnBindFailed refl there refl, tt)), (refl, refl, refl))
+  got_own good a b = ((permit_got s l.state.number before l at later linked m (marked_up l.state.number at None (what.Down OwnBindFailed) ∷ []) there free (no_who_due _) (ap (λ c. implies c false) good) (ap (λ c. agrees c false) a) refl (ap (λ c. agrees c true) b), (permit_down s l.state.number (before ++ marked_up l.state.number at None (what.Got m.id m.rest) ∷ []) (step_connection_ledger s l (marked_up l.state.number at None (what.Got m.id m.rest))) at (le_same at) linked OwnBindFailed refl there refl, tt)), (refl, refl, refl))
 
   -- what isn't an answer to the own Bind
   not_own : (test : List ℕ → Bool) → is_under_own l.state m.id ≡ false → answers_by test ≡ false

@@ -1,5 +1,5 @@
 -- What a regular connection's turns give where each letter was fit, rule by rule.
-use Rattle.std.proofs.Common.{◌≡◌, ℕ, Bool, true, false, ◌==◌, ◌&&◌, not, List, [], ◌∷◌, ◌++◌, flat_map, refl, ap, ◌∙◌, sym}
+use Rattle.std.proofs.Common.{◌≡◌, ℕ, Bool, true, false, ◌&&◌, not, List, [], ◌∷◌, ◌++◌, flat_map, refl, ap, ◌∙◌, sym}
 use Rattle.std.specs.Prelude.{Option, Some, None, find, if◌then◌else◌}
 use Rattle.std.specs.List.{list_any, list_all}
 use Rattle.std.proofs.lemmas.List.{append-nil}
@@ -17,8 +17,7 @@ use Rattle.lload_names.specs.declared.names.ConnKind.TheVariants.{Regular, Bind 
 use Rattle.lload_names.specs.declared.names.PartName.{PartName}
 use Rattle.lload_names.specs.declared.names.PartName.TheVariants.{Desk, Up as Connection}
 use Rattle.lload_names.specs.declared.names.Posted.{Posted}
-use Rattle.lload_names.specs.declared.names.Letter.TheVariants.{Forward, IsUp, IsRetired}
-use Rattle.lload_names.specs.declared.names.What.{What}
+use Rattle.lload_names.specs.declared.names.Letter.TheVariants.{Forward, IsUp}
 use Rattle.lload_names.specs.declared.names.What.TheVariants as what
 use Rattle.lload_spec.specs.Settings.{Settings, OwnBind}
 use Rattle.lload_spec.specs.Journal.{same_op}
@@ -30,40 +29,23 @@ use Rattle.part_spec.specs.ConnectionState.{ConnectionState, UpRow, step_connect
 use Rattle.part_spec.specs.ConnectionTurn.{ended, row_ended, latency, giving, retires, goes_down, comes_up, down_letters}
 use Rattle.part_spec.specs.RegularTurn.{link_up, own_answer, row_answer, answered, message, missed_letters, forwards, abandons, drops}
 use Rattle.part_spec.specs.BindTurn.{answered as bind_answered, missed_letters as missed_bind_letters}
-use Rattle.part_spec.specs.Gives.{connection_gives, connection_letters}
+use Rattle.part_spec.specs.Gives.{connection_gives}
 use Rattle.lload_laws.proofs.ListLaws.{found}
 use Rattle.part_laws.proofs.ListLaws.{not_true}
-use Rattle.connection_laws.proofs.ConnectionSays.{number_step}
 use Rattle.connection_laws.proofs.Rows.{is_sound, no_bind}
 use Rattle.connection_laws.proofs.Apart.{are_apart}
-use Rattle.connection_laws.proofs.Pieces.{up_entry, marked_up}
-use Rattle.connection_laws.proofs.Regular.{turn_of, none_sound, and_not}
-use Rattle.connection_laws.proofs.RegularTurns.{tail_none, bind_names_none}
+use Rattle.connection_laws.proofs.Pieces.{marked_up}
+use Rattle.connection_laws.proofs.Makes.{tail_none}
+use Rattle.connection_laws.proofs.Regular.{none_sound, and_not}
+use Rattle.connection_laws.proofs.RegularTurns.{bind_names_none}
 use Rattle.connection_laws.proofs.RegularRowsGive.{abandoned_none, one_abandoned, bad_rows, bad_other, down_same}
-
--- What a turn's entries give from a state.
-abbrev pub GivesTurn : Settings → ConnectionState → ℕ → ℕ → Option Taken → List What → List Posted → Type 0
-GivesTurn s p u at mark ws letters = connection_gives s p (turn_of u at mark ws) ≡ letters
+use Rattle.connection_laws.proofs.Giving.{GivesTurn, giving_gives, alone_gives}
 
 not_left : (a b : Bool) → a ≡ false → (a && b) ≡ false
 not_left true b h = absurd (let bad : true ≡ false = h in cc)
 not_left false b h = refl
 
 module _ (s : Settings) (u at : ℕ) where
-  -- an entry that gives an identifier, with Retired behind it where it is the limit
-  pub giving_gives : (p : ConnectionState) (mark : Option Taken) (w : What) (id : ℕ) (given : List Posted) → connection_letters s p at mark w ≡ given → GivesTurn s p u at mark (giving s id w) (given ++ retires s p id)
-  giving_gives p mark w id given e = by (id == s.id_limit)
-    where
-      next : ConnectionState
-      next = step_connection s p (marked_up u at mark w)
-
-      whats : Bool → List What
-      whats b = elim b [ true ↦ w ∷ what.Retired ∷ [] | false ↦ w ∷ [] ]
-
-      by : (b : Bool) → connection_gives s p (turn_of u at mark (whats b)) ≡ given ++ (elim b [ true ↦ to Desk (IsRetired p.number) | false ↦ [] ])
-      by true = ap (λ l. l ++ to Desk (IsRetired (step_connection s p (marked_up u at mark w)).number)) e ∙ ap (λ n. given ++ to Desk (IsRetired n)) (number_step s (up_entry u at w) mark p w)
-      by false = ap (λ l. l ++ []) e
-
   -- the beginning
   pub link_gives : (p : ConnectionState) → GivesTurn s p u at None (link_up s p).whats (link_up s p).letters
   link_gives p = by s.own_bind
@@ -76,7 +58,7 @@ module _ (s : Settings) (u at : ℕ) where
 
       by : (o : Option OwnBind) → GivesTurn s p u at None (begin_act o).whats (begin_act o).letters
       by None = refl
-      by (Some own) = ap (connection_gives s (step_connection s p (marked_up u at None what.Linked))) (tail_none (entries_of (Connection u) at (giving s p.ids.next (what.Own p.ids.next (simple_bind own.dn own.credentials))))) ∙ giving_gives (step_connection s p (marked_up u at None what.Linked)) None (what.Own p.ids.next (simple_bind own.dn own.credentials)) p.ids.next [] (abandoned_none (step_connection s p (marked_up u at None what.Linked)) (simple_bind own.dn own.credentials) p.rows (bind_names_none own.dn own.credentials p.rows))
+      by (Some own) = ap (connection_gives s (step_connection s p (marked_up u at None what.Linked))) (tail_none (entries_of (Connection u) at (giving s p.ids.next (what.Own p.ids.next (simple_bind own.dn own.credentials))))) ∙ giving_gives s u at (step_connection s p (marked_up u at None what.Linked)) None (what.Own p.ids.next (simple_bind own.dn own.credentials)) p.ids.next [] (abandoned_none (step_connection s p (marked_up u at None what.Linked)) (simple_bind own.dn own.credentials) p.rows (bind_names_none own.dn own.credentials p.rows))
 
   -- A message.
   module _ (p : ConnectionState) (kind : p.kind ≡ Regular) (place : List Entry) (sound : list_all (is_sound u place) p.rows ≡ true) (apart : are_apart p.rows ≡ true) (id : ℕ) (rest : List ℕ) where
@@ -107,14 +89,6 @@ module _ (s : Settings) (u at : ℕ) where
         by true e = refl
         by false e = bad_rows at m u place p.rows apart sound (λ x f. sym (ap (is_bad_for (message_facts p) m) f) ∙ bad_other p m e h)
 
-    -- a message that brings nothing more
-    alone_gives : (a : Act) → letters_by (is_bad (message_facts p) m) p.kind ≡ letters_alone a → a.whats ≡ [] → GivesTurn s p u at None (what.Got id rest ∷ a.whats) a.letters
-    alone_gives a e n = by a.whats a.letters e n
-      where
-        by : (ws : List What) (letters : List Posted) → letters_by (is_bad (message_facts p) m) p.kind ≡ letters_alone (act ws letters) → ws ≡ [] → GivesTurn s p u at None (what.Got id rest ∷ ws) letters
-        by [] letters k j = ap (λ l. l ++ []) k ∙ append-nil letters
-        by (w ∷ ws) letters k j = absurd (let no : w ∷ ws ≡ [] = j in cc)
-
     up_gives : letters_by (is_bad (message_facts p) m) p.kind ≡ [] → GivesTurn s p u at None (what.Got id rest ∷ what.Up ∷ []) (to Desk (IsUp p.number))
     up_gives e = ap (λ l. l ++ to Desk (IsUp p.number)) e
 
@@ -144,8 +118,8 @@ module _ (s : Settings) (u at : ℕ) where
         by : (c : Bool) → letters_by (is_bad (message_facts p) m) p.kind ≡ letters_alone (own_act c) → GivesTurn s p u at None (what.Got id rest ∷ (own_act c).whats) (own_act c).letters
         by true k = up_gives k
         by false k = down_gives OwnBindFailed k (ap (λ b. if b then p.rows else flat_map (behind_message at m) p.rows) under)
-    then_gives None false under e = alone_gives nothing e refl
-    then_gives (Some r) false under e = alone_gives (row_answer p at m r) e (reply_quiet r (is_final r.kind rest))
+    then_gives None false under e = alone_gives s u at p id rest nothing e refl
+    then_gives (Some r) false under e = alone_gives s u at p id rest (row_answer p at m r) e (reply_quiet r (is_final r.kind rest))
 
     pub message_gives : GivesTurn s p u at None (message p at m).whats (message p at m).letters
     message_gives = by (is_bad (message_facts p) m) refl
@@ -170,7 +144,7 @@ module _ (s : Settings) (u at : ℕ) where
 
         by : (b : Bool) → GivesTurn s p u at (Some (record { sender = sender; letter = Forward op sort rest ask_who holder })) (forward_act b).whats (forward_act b).letters
         by true = ap (λ k. (elim k [ Regular ↦ missed_letters p op | BindKind ↦ missed_bind_letters p op holder ]) ++ []) kind ∙ append-nil (missed_letters p op)
-        by false = giving_gives p (Some (record { sender = sender; letter = Forward op sort rest ask_who holder })) (what.Sent (id_for p.ids) op rest) (id_for p.ids) [] refl
+        by false = giving_gives s u at p (Some (record { sender = sender; letter = Forward op sort rest ask_who holder })) (what.Sent (id_for p.ids) op rest) (id_for p.ids) [] refl
 
     -- the end of a row's operation
     row_end : (r : UpRow) → row_ended p r None ≡ ended p r.op None
@@ -184,4 +158,4 @@ module _ (s : Settings) (u at : ℕ) where
 
         by : (o : Option UpRow) → row_named p op ≡ o → GivesTurn s p u at mark (drop_act o).whats (drop_act o).letters
         by None e = refl
-        by (Some r) e = giving_gives p mark (what.Own p.ids.next (abandon r.id)) p.ids.next (ended p r.op None) (one_abandoned p op r p.rows apart e (no_bind u place r (found (is_sound u place) (λ q. same_op op q.op) p.rows r e sound)) ∙ row_end r)
+        by (Some r) e = giving_gives s u at p mark (what.Own p.ids.next (abandon r.id)) p.ids.next (ended p r.op None) (one_abandoned p op r p.rows apart e (no_bind u place r (found (is_sound u place) (λ q. same_op op q.op) p.rows r e sound)) ∙ row_end r)

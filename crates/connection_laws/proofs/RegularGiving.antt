@@ -1,13 +1,10 @@
 -- Where each letter was fit, a regular connection gives what its turns gave.
-use Rattle.std.proofs.Common.{◌≡◌, ℕ, suc, max, inl, inr, Bool, true, false, ◌==◌, ◌&&◌, not, List, [], ◌∷◌, ◌++◌, length, flat_map, refl, ap, ◌∙◌, sym, subst, append_assoc, arith}
-use Rattle.std.specs.Prelude.{Option, Some, None, filter, nat_le, is_none}
+use Rattle.std.proofs.Common.{◌≡◌, ℕ, suc, inl, inr, Bool, true, false, ◌==◌, ◌&&◌, not, List, [], ◌∷◌, ◌++◌, refl, ap, ◌∙◌, sym, subst, append_assoc}
+use Rattle.std.specs.Prelude.{Option, Some, None, filter, nat_le}
 use Rattle.std.specs.List.{list_all}
 use Rattle.std.proofs.lemmas.List.{append-nil}
-use Rattle.std.proofs.lemmas.Bool.Decides.{nat_tests}
 use Rattle.ldap_spec.specs.Bodies.{abandon}
-use Rattle.lload_names.specs.declared.names.OpName.{OpName}
-use Rattle.lload_names.specs.declared.names.EndWhy.{EndWhy}
-use Rattle.lload_names.specs.declared.names.EndWhy.TheVariants.{TimedOut, Drained}
+use Rattle.lload_names.specs.declared.names.EndWhy.TheVariants.{TimedOut}
 use Rattle.lload_names.specs.declared.names.ConnKind.{ConnKind}
 use Rattle.lload_names.specs.declared.names.ConnKind.TheVariants.{Regular, Bind as BindKind}
 use Rattle.lload_names.specs.declared.names.Refusal.TheVariants.{C5}
@@ -15,45 +12,40 @@ use Rattle.lload_names.specs.declared.names.PartName.{PartName}
 use Rattle.lload_names.specs.declared.names.PartName.TheVariants.{Desk, Up as Connection}
 use Rattle.lload_names.specs.declared.names.Posted.{Posted}
 use Rattle.lload_names.specs.declared.names.Letter.{Letter}
-use Rattle.lload_names.specs.declared.names.Letter.TheVariants.{Forward, Drop, Pause, Resume, Ended, IsRetired, IsDown}
+use Rattle.lload_names.specs.declared.names.Letter.TheVariants.{Forward, Drop, Pause, Resume, Ended, IsRetired}
 use Rattle.lload_names.specs.declared.names.What.{What}
 use Rattle.lload_names.specs.declared.names.What.TheVariants as what
-use Rattle.lload_names.specs.declared.plans.Place.{Place}
 use Rattle.lload_names.specs.declared.inputs.Input.{Input}
 use Rattle.lload_names.specs.declared.inputs.Input.TheVariants.{LinkUp, Message as MessageIn, LetterFrom, Tick}
-use Rattle.lload_names.specs.declared.inputs.Effects.{Effects}
 use Rattle.lload_spec.specs.Lists.{passes}
-use Rattle.lload_spec.specs.Settings.{Settings, is_kind, is_of_kind, place_at}
+use Rattle.lload_spec.specs.Settings.{Settings, is_kind, is_of_kind}
 use Rattle.lload_spec.specs.Journal.{same_op}
-use Rattle.lload_spec.specs.Entries.{is_link_reason}
 use Rattle.lload_spec.specs.Identifiers.{id_for}
 use Rattle.lload_spec.specs.CausedUp.{is_past}
 use Rattle.part_spec.specs.Marked.{Marked, Taken, entries}
-use Rattle.part_spec.specs.Inputs.{Act, act, also, entries_of, marked_by, letter_of, moment_for, moment_of, to, failed}
+use Rattle.part_spec.specs.Inputs.{Act, also, entries_of, letter_of, to, failed}
 use Rattle.part_spec.specs.ConnectionState.{ConnectionState, UpRow, step_connection, is_stopped, is_there, is_holding, row_named}
-use Rattle.part_spec.specs.ConnectionTurn.{ended, is_due, giving, goes_down, down_letters, behind_act, is_drained, with_drained, where_so, loss}
+use Rattle.part_spec.specs.ConnectionTurn.{ended, is_due, giving, goes_down, down_letters, where_so}
 use Rattle.part_spec.specs.RegularTurn.{regular_act, regular_rule, link_up, message, letter, drops, expires, expire, ticks, is_own_due}
-use Rattle.part_spec.specs.Turn.{connection_sever}
 use Rattle.part_spec.specs.Gives.{connection_gives, connection_letters}
 use Rattle.part_spec.specs.Fit.{ConnectionLedger, empty_connection_ledger, step_connection_ledger, fits_connection, ledger_behind as behind}
 use Rattle.lload_spec.proofs.Growth.{left, right}
-use Rattle.part_laws.specs.Turns.{Event, Comes, Severed, made, no_effects}
 use Rattle.part_laws.proofs.Giving.{gives_more}
 use Rattle.part_laws.proofs.FitGiving.{fit_turns_give}
-use Rattle.part_laws.proofs.ListLaws.{le_max}
 use Rattle.connection_laws.specs.Turns.{connection_event, RegularGives}
-use Rattle.connection_laws.proofs.ConnectionSays.{number_step}
 use Rattle.connection_laws.proofs.Permits.{state_through}
 use Rattle.connection_laws.proofs.Rows.{all_filter, is_sound}
 use Rattle.connection_laws.proofs.Apart.{are_apart, is_apart, apart_filter}
 use Rattle.connection_laws.proofs.Pieces.{marked_up}
-use Rattle.connection_laws.proofs.Regular.{turn_of}
-use Rattle.connection_laws.proofs.RegularTurns.{tail_none, steps_are, turn_more, number_through}
 use Rattle.connection_laws.proofs.RegularTicks.{Stays, NamedDue, unmarked, unmarked_more, due_whats, expire_is, named_left, names_none, other_ids, left_rows, left_next, expires_stays, all_due_named}
 use Rattle.connection_laws.proofs.RegularAlone.{Alone}
 use Rattle.connection_laws.proofs.RegularRowsGive.{abandoned_none}
-use Rattle.connection_laws.proofs.RegularGives.{GivesTurn, giving_gives, link_gives, message_gives, forward_gives, drop_gives}
-use Rattle.connection_laws.proofs.RegularShare.{RegularKeeps, act_at, connection_act_of, gives_some, forward_act, drop_act, stays, nothing_kept, event_keeps}
+use Rattle.connection_laws.proofs.RegularGives.{link_gives, message_gives, forward_gives, drop_gives}
+use Rattle.connection_laws.proofs.RegularShare.{RegularKeeps, regular_act_is, forward_act, drop_act, stays, nothing_kept, event_keeps}
+use Rattle.connection_laws.proofs.Makes.{turn_of, tail_none}
+use Rattle.connection_laws.proofs.Through.{number_through}
+use Rattle.connection_laws.proofs.Rules.{gives_some}
+use Rattle.connection_laws.proofs.Giving.{GivesTurn, giving_gives, drained_gives, so_gives, event_gives, Quiet, quiet_so, quiet_some, quiet_drained, event_quiet}
 
 -- The rows that expire.
 
@@ -107,48 +99,10 @@ tick_gives s u at before l h (inr a) = subst (λ rows. GivesTurn s l.state l.sta
     by true = append-nil (down_letters l.state)
     by false = refl
 
--- The end of a drained connection.
-drained_down : (q : ConnectionState) → is_drained q ≡ true → down_letters q ≡ to Desk (IsDown q.number)
-drained_down q d = ap (λ rows. flat_map (loss q) rows ++ ((elim q.holder [ None ↦ [] | Some h ↦ ended q h None ]) ++ to Desk (IsDown q.number))) (no_rows q.rows (right (q.retired && not q.down) _ (left (q.retired && not q.down && length q.rows == 0) _ d))) ∙ ap (λ o. (elim o [ None ↦ [] | Some h ↦ ended q h None ]) ++ to Desk (IsDown q.number)) (no_holder q.holder (right (q.retired && not q.down && length q.rows == 0) _ d))
-  where
-    no_rows : (rows : List UpRow) → (length rows == 0) ≡ true → rows ≡ []
-    no_rows [] e = refl
-    no_rows (r ∷ rows) e = absurd (grind (arith, nat_tests, e))
-
-    no_holder : (o : Option OpName) → is_none o ≡ true → o ≡ None
-    no_holder None e = refl
-    no_holder (Some h) e = absurd (let bad : false ≡ true = e in cc)
-
-number_behind : (s : Settings) (p : ConnectionState) (ms : List Marked) → (behind (step_connection s) p ms).number ≡ p.number
-number_behind s p [] = refl
-number_behind s p (m ∷ ms) = number_behind s (step_connection s p m) ms ∙ number_step s m.entry m.mark p m.entry.what
-
-drained_gives : (s : Settings) (p : ConnectionState) (at : ℕ) (mark : Option Taken) (a : Act) → GivesTurn s p p.number at mark a.whats a.letters → GivesTurn s p p.number at mark (with_drained s at mark p a).whats (with_drained s at mark p a).letters
-drained_gives s p at mark a k = by (is_drained (behind_act s at mark p a)) refl
-  where
-    drained_act : Bool → Act → Act
-    drained_act b x = elim b [ true ↦ also x (act (what.Down Drained ∷ []) (to Desk (IsDown p.number))) | false ↦ x ]
-
-    more : (ws : List What) (letters : List Posted) → is_drained (behind_act s at mark p (act ws letters)) ≡ true → GivesTurn s p p.number at mark ws letters → GivesTurn s p p.number at mark (ws ++ what.Down Drained ∷ []) (letters ++ to Desk (IsDown p.number))
-    more [] letters e g = append-nil (down_letters p) ∙ drained_down p e ∙ ap (λ l. l ++ to Desk (IsDown p.number)) g
-    more (w ∷ ws) letters e g =
-        let turn : List Marked = turn_of p.number at mark (w ∷ ws) in
-        let end : ConnectionState = behind (step_connection s) p turn in
-        let drained : is_drained end ≡ true = ap is_drained (sym (steps_are s p turn)) ∙ e in
-        ap (connection_gives s p) (turn_more p.number at mark w ws (what.Down Drained ∷ [])) ∙ gives_more (step_connection s) (λ q x. connection_letters s q x.entry.at x.mark x.entry.what) p turn (marked_up p.number at None (what.Down Drained) ∷ []) ∙ ap (λ l. l ++ (down_letters end ++ [])) g ∙ ap (λ l. letters ++ l) (append-nil (down_letters end) ∙ drained_down end drained ∙ ap (λ n. to Desk (IsDown n)) (number_behind s p turn))
-
-    by : (b : Bool) → is_drained (behind_act s at mark p a) ≡ b → GivesTurn s p p.number at mark (drained_act b a).whats (drained_act b a).letters
-    by true e = more a.whats a.letters e k
-    by false e = k
-
 -- The rules by input.
 module _ (s : Settings) (u : ℕ) (before : List Marked) (l : ConnectionLedger) (h : RegularKeeps s u before l) (place : is_of_kind s Regular u ≡ true) (at : ℕ) (later : nat_le l.state.moment at ≡ true) where
   abbrev Gives : Option Taken → Act → Type 0
   Gives mark a = GivesTurn s l.state l.state.number at mark a.whats a.letters
-
-  so : (b : Bool) (a : Act) (mark : Option Taken) → (b ≡ true → Gives mark a) → Gives mark (where_so b a)
-  so true a mark f = f refl
-  so false a mark f = refl
 
   as_number : (mark : Option Taken) (a : Act) → GivesTurn s l.state u at mark a.whats a.letters → GivesTurn s l.state l.state.number at mark a.whats a.letters
   as_number mark a k = subst (λ n. GivesTurn s l.state n at mark a.whats a.letters) (sym h.keeps.stands.number) k
@@ -161,63 +115,16 @@ module _ (s : Settings) (u : ℕ) (before : List Marked) (l : ConnectionLedger) 
   letter_gives sender _ = refl
 
   rule_gives : (input : Input) → Gives (letter_of input) (regular_rule s l.state at input)
-  rule_gives (LinkUp now) = so (not l.state.linked) (link_up s l.state) None (λ e. link_gives s l.state.number at l.state)
-  rule_gives (MessageIn now id rest) = so (is_there l.state && not (is_holding l.state)) (message l.state at (record { id = id; rest = rest })) None (λ e. as_number None (message l.state at (record { id = id; rest = rest })) (message_gives s u at l.state h.kind (entries before) h.sound h.apart.apart id rest))
-  rule_gives (LetterFrom now word sender x) = so l.state.linked (letter s l.state x) (Some (record { sender = sender; letter = x })) (λ e. letter_gives sender x)
-  rule_gives (Tick now) = so (is_there l.state) (ticks s l.state at) None (λ e. tick_gives s u at before l (stays s u before l h place at later e) h.alone)
+  rule_gives (LinkUp now) = so_gives s l.state at (not l.state.linked) (link_up s l.state) None (λ e. link_gives s l.state.number at l.state)
+  rule_gives (MessageIn now id rest) = so_gives s l.state at (is_there l.state && not (is_holding l.state)) (message l.state at (record { id = id; rest = rest })) None (λ e. as_number None (message l.state at (record { id = id; rest = rest })) (message_gives s u at l.state h.kind (entries before) h.sound h.apart.apart id rest))
+  rule_gives (LetterFrom now word sender x) = so_gives s l.state at l.state.linked (letter s l.state x) (Some (record { sender = sender; letter = x })) (λ e. letter_gives sender x)
+  rule_gives (Tick now) = so_gives s l.state at (is_there l.state) (ticks s l.state at) None (λ e. tick_gives s u at before l (stays s u before l h place at later e) h.alone)
   rule_gives _ = refl
 
   input_gives : (input : Input) → Gives (letter_of input) (regular_act s l.state at input)
   input_gives input = drained_gives s l.state at (letter_of input) (regular_rule s l.state at input) (rule_gives input)
 
-  sever_gives : (why : EndWhy) → Gives None (where_so (is_there l.state) (goes_down l.state why))
-  sever_gives why = so (is_there l.state) (goes_down l.state why) None (λ e. append-nil (down_letters l.state))
-
-module _ (s : Settings) (u : ℕ) (place : is_of_kind s Regular u ≡ true) (before : List Marked) (l : ConnectionLedger) (h : RegularKeeps s u before l) where
-  turn_gives : (input : Input) → GivesTurn s l.state l.state.number (moment_for l.state.moment input) (letter_of input) (connection_act_of s l.state input).whats (connection_act_of s l.state input).letters
-  turn_gives input = by (place_at s l.state.number) l.state.kind h.kind
-    where
-      by : (o : Option Place) (k : ConnKind) → k ≡ Regular → GivesTurn s l.state l.state.number (moment_for l.state.moment input) (letter_of input) (act_at s l.state input o k).whats (act_at s l.state input o k).letters
-      by None k e = refl
-      by (Some q) Regular e = input_gives s u before l h place (moment_for l.state.moment input) (le_max l.state.moment (moment_of input)) input
-      by (Some q) BindKind e = absurd (cc)
-
-  event_gives : (x : Event) → connection_gives s l.state (made (connection_event s) l.state x) ≡ (connection_event s l.state x).letters
-  event_gives (Comes input) = turn_gives input
-  event_gives (Severed now why) = by (is_link_reason why)
-    where
-      state : Bool → Effects
-      state b = elim b [ true ↦ connection_sever l.state now why | false ↦ no_effects ]
-
-      by : (b : Bool) → connection_gives s l.state (marked_by None (state b).entries) ≡ (state b).letters
-      by true = sever_gives s u before l h place (max l.state.moment now) (le_max l.state.moment now) why
-      by false = refl
-
 -- A turn without entries gives nothing.
-abbrev Quiet : Act → Type 0
-Quiet a = a.whats ≡ [] → a.letters ≡ []
-
-quiet_so : (b : Bool) (a : Act) → Quiet a → Quiet (where_so b a)
-quiet_so true a q = q
-quiet_so false a q = λ e. refl
-
-quiet_some : (w : What) (ws : List What) (letters : List Posted) → Quiet (act (w ∷ ws) letters)
-quiet_some w ws letters e = absurd (let bad : w ∷ ws ≡ [] = e in cc)
-
-quiet_drained : (s : Settings) (at : ℕ) (mark : Option Taken) (p : ConnectionState) (a : Act) → Quiet a → Quiet (with_drained s at mark p a)
-quiet_drained s at mark p a q = by (is_drained (behind_act s at mark p a))
-  where
-    drained_act : Bool → Act
-    drained_act b = elim b [ true ↦ also a (act (what.Down Drained ∷ []) (to Desk (IsDown p.number))) | false ↦ a ]
-
-    some_more : (ws : List What) → ws ++ what.Down Drained ∷ [] ≡ [] → false ≡ true
-    some_more [] e = absurd (let bad : what.Down Drained ∷ [] ≡ [] = e in cc)
-    some_more (w ∷ ws) e = absurd (let bad : w ∷ (ws ++ what.Down Drained ∷ []) ≡ [] = e in cc)
-
-    by : (b : Bool) → Quiet (drained_act b)
-    by true = λ e. absurd (let bad : false ≡ true = some_more a.whats e in cc)
-    by false = q
-
 no_gift : {C : Type 0} → false ≡ true → C
 no_gift h = absurd (let bad : false ≡ true = h in cc)
 
@@ -251,25 +158,5 @@ quiet_rule s p at (LetterFrom now word sender x) = quiet_so p.linked (letter s p
 quiet_rule s p at (Tick now) = quiet_so (is_there p) (ticks s p at) (quiet_ticks s p at)
 quiet_rule s p at _ = λ e. refl
 
-none_entries : (u at : ℕ) (ws : List What) → entries_of (Connection u) at ws ≡ [] → ws ≡ []
-none_entries u at [] e = refl
-none_entries u at (w ∷ ws) e = absurd (let bad : entries_of (Connection u) at (w ∷ ws) ≡ [] = e in cc)
-
-event_quiet : (s : Settings) (u : ℕ) (before : List Marked) (l : ConnectionLedger) (x : Event) → RegularKeeps s u before l → (connection_event s l.state x).entries ≡ [] → (connection_event s l.state x).letters ≡ []
-event_quiet s u before l (Comes input) h e = by (place_at s l.state.number) l.state.kind h.kind (none_entries l.state.number (moment_for l.state.moment input) (connection_act_of s l.state input).whats e)
-  where
-    by : (o : Option Place) (k : ConnKind) → k ≡ Regular → Quiet (act_at s l.state input o k)
-    by None k f = λ g. refl
-    by (Some q) Regular f = quiet_drained s (moment_for l.state.moment input) (letter_of input) l.state (regular_rule s l.state (moment_for l.state.moment input) input) (quiet_rule s l.state (moment_for l.state.moment input) input)
-    by (Some q) BindKind f = absurd (cc)
-event_quiet s u before l (Severed now why) h e = by (is_link_reason why) e
-  where
-    state : Bool → Effects
-    state b = elim b [ true ↦ connection_sever l.state now why | false ↦ no_effects ]
-
-    by : (b : Bool) → (state b).entries ≡ [] → (state b).letters ≡ []
-    by true f = quiet_so (is_there l.state) (goes_down l.state why) (quiet_some (what.Down why) [] (down_letters l.state)) (none_entries l.state.number (max l.state.moment now) (where_so (is_there l.state) (goes_down l.state why)).whats f)
-    by false f = refl
-
 pub regular_gives : RegularGives
-regular_gives s u place xs fit = fit_turns_give (fits_connection s) (step_connection_ledger s) (step_connection s) (λ l. l.state) (λ l m. refl) (λ q m. connection_letters s q m.entry.at m.mark m.entry.what) (connection_event s) (RegularKeeps s u) (event_quiet s u) (λ before l x h f. event_keeps s u place before l h x f) (λ before l x h f. event_gives s u place before l h x) xs [] (empty_connection_ledger s u) (nothing_kept s u place) fit
+regular_gives s u place xs fit = fit_turns_give (fits_connection s) (step_connection_ledger s) (step_connection s) (λ l. l.state) (λ l m. refl) (λ q m. connection_letters s q m.entry.at m.mark m.entry.what) (connection_event s) (RegularKeeps s u) (λ before l x h. event_quiet s l.state (λ at input. regular_act_is Quiet s l.state at input h.kind (quiet_drained s at (letter_of input) l.state (regular_rule s l.state at input) (quiet_rule s l.state at input))) x) (λ before l x h f. event_keeps s u place before l h x f) (λ before l x h f. event_gives s l.state (λ at later input. regular_act_is (λ a. GivesTurn s l.state l.state.number at (letter_of input) a.whats a.letters) s l.state at input h.kind (input_gives s u before l h place at later input)) x) xs [] (empty_connection_ledger s u) (nothing_kept s u place) fit

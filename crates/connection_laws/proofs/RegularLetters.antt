@@ -1,6 +1,6 @@
 -- The letters that a regular connection takes, and its beginning: each rule makes a turn of permitted entries.
 use Rattle.std.proofs.Common.{◌≡◌, ℕ, Bool, true, false, ◌==◌, ◌&&◌, ◌||◌, not, List, [], ◌∷◌, ◌++◌, refl, ap, ◌∙◌, sym}
-use Rattle.std.specs.Prelude.{Option, Some, None, is_some, is_none, nat_le}
+use Rattle.std.specs.Prelude.{Option, Some, None, is_some, is_none, nat_le, if◌then◌else◌}
 use Rattle.std.specs.List.{list_any, list_all}
 use Rattle.std.specs.Str.{bytes_eq}
 use Rattle.ldap_spec.specs.Bodies.{abandon, who_am_i, simple_bind}
@@ -37,9 +37,9 @@ use Rattle.connection_laws.proofs.OwnBinds.{is_second_bind, is_single}
 use Rattle.connection_laws.proofs.Rows.{is_sound, is_sent_as, no_bind}
 use Rattle.connection_laws.proofs.Apart.{RowsApart}
 use Rattle.connection_laws.proofs.ApartTurns.{names_first}
-use Rattle.connection_laws.proofs.Pieces.{up_entry, marked_up, permit_idle, permit_missed}
+use Rattle.connection_laws.proofs.Pieces.{up_entry, marked_up, not_held, permit_idle, permit_missed}
 use Rattle.connection_laws.proofs.MorePieces.{permit_paused, permit_resumed}
-use Rattle.connection_laws.proofs.Regular.{Makes, gives_own, gives_sent}
+use Rattle.connection_laws.proofs.Makes.{Makes, gives_own, gives_sent}
 
 -- an Abandon is no own Bind
 pub abandon_no_bind : (s : Settings) (u at id i : ℕ) → is_own_bind s (up_entry u at (what.Own id (abandon i))) ≡ false
@@ -74,7 +74,7 @@ module _ (s : Settings) (u : ℕ) (before : List Marked) (l : ConnectionLedger) 
 
       by : (b : Bool) → is_stopped l.state ≡ b → Makes s before l at (Some (record { sender = sender; letter = Forward op kind rest ask_who holder })) (forward_act b).whats
       by true e = ((permit_missed s l.state.number before l at later linked mark op (both (same_op op op) _ (same_op_refl op) e) refl e, tt), (refl, refl, refl))
-      by false e = gives_sent s before l at later linked (stopped_or l.state.retired l.state.down e) mark op rest (both (same_op op op && bytes_eq rest rest) _ (both (same_op op op) _ (same_op_refl op) (bytes_same rest)) (ap not e)) refl regular up e new
+      by false e = gives_sent s before l at later linked (stopped_or l.state.retired l.state.down e) mark op rest (both (same_op op op && bytes_eq rest rest) _ (both (same_op op op) _ (same_op_refl op) (bytes_same rest)) (ap not e)) refl (not_held (is_bind l.state) _ regular) up e new
 
   row_is_sound : (op : OpName) (r : UpRow) → row_named l.state op ≡ Some r → is_sound u (entries before) r ≡ true
   row_is_sound op r e = found (is_sound u (entries before)) (λ q. same_op op q.op) l.state.rows r e sound
@@ -106,7 +106,7 @@ module _ (s : Settings) (u : ℕ) (before : List Marked) (l : ConnectionLedger) 
       drop_act o = elim o [ None ↦ act (what.Idle op ∷ []) [] | Some r ↦ abandons s l.state r ]
 
       by : (o : Option UpRow) → row_named l.state op ≡ o → Makes s before l at (Some (record { sender = sender; letter = Drop op })) (drop_act o).whats
-      by None e = ((permit_idle s l.state.number before l at later linked sender op regular e, tt), (refl, refl, refl))
+      by None e = ((permit_idle s l.state.number before l at later linked mark op (both (same_op op op) _ (same_op_refl op) (ap is_none e)) refl (ap (λ b. if b then not (passes (same_op op) l.state.holder) else is_none (row_named l.state op)) regular ∙ ap is_none e), tt), (refl, refl, refl))
       by (Some r) e = gives_own s before l at later linked (there r e) mark (abandon r.id) (ap (passes (is_abandoned_by (abandon r.id))) e ∙ both (not (is_bind_row r)) _ (no_bind u (entries before) r (row_is_sound op r e)) (bytes_same (abandon r.id))) refl (abandon_first s l.state (entries before) l.state.number at l.state.ids.next r.id) (or_right (is_own_bind s (up_entry l.state.number at (what.Own l.state.ids.next (abandon r.id))) && last_passes (is_bind_due s l.state.number) (entries before) || is_own who_am_i (up_entry l.state.number at (what.Own l.state.ids.next (abandon r.id))) && list_any is_who_awaited l.state.rows) _ (reason_by op r e)) (names_first (entries before) l.state (λ q. same_op op q.op) r apart e)
 
   -- a Pause, and a Resume

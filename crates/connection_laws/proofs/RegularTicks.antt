@@ -38,9 +38,10 @@ use Rattle.connection_laws.proofs.Apart.{RowsApart, are_apart, is_apart, abandon
 use Rattle.connection_laws.proofs.ApartTurns.{names_first, apart_through}
 use Rattle.connection_laws.proofs.Pieces.{up_entry, marked_up, chain_append, permit_down}
 use Rattle.connection_laws.proofs.MorePieces.{permit_expired}
-use Rattle.connection_laws.proofs.Regular.{Makes, gives_own}
+use Rattle.connection_laws.proofs.Makes.{Makes, gives_own, tail_none}
 use Rattle.connection_laws.proofs.RegularLetters.{abandon_first, abandon_no_bind, and_none}
-use Rattle.connection_laws.proofs.RegularTurns.{rows_through, tail_none, number_through, kind_through}
+use Rattle.connection_laws.proofs.Through.{number_through, kind_through}
+use Rattle.connection_laws.proofs.RegularTurns.{rows_through}
 
 -- The rows that are found by their names.
 abbrev pub NamedDue : Settings → ℕ → List UpRow → List UpRow → Type 0
@@ -167,7 +168,7 @@ module _ (s : Settings) (u at : ℕ) (before : List Marked) (l : ConnectionLedge
   gives_first t false = refl
 
   expires_chain : Chain s before l (unmarked l.state.number at (what.Expired r.op ∷ giving s l.state.ids.next (what.Own l.state.ids.next (abandon r.id))))
-  expires_chain = (permit_expired s l.state.number before l at h.later h.linked r.op r [] (unmarked l.state.number at (giving s l.state.ids.next (what.Own l.state.ids.next (abandon r.id)))) h.there named due (not_true (is_bind_row r) (no_bind u (entries before) r row_sound)) (gives_first (is_own (abandon r.id)) (l.state.ids.next == s.id_limit) ∙ bytes_same (abandon r.id)) (gives_first (λ e. is_up e.what) (l.state.ids.next == s.id_limit)) (gives_first (λ e. is_retired e.what) (l.state.ids.next == s.id_limit)) (gives_first (is_down_by OwnBindFailed) (l.state.ids.next == s.id_limit)), subst (Chain s (before ++ marked_up l.state.number at None (what.Expired r.op) ∷ []) (step_connection_ledger s l (marked_up l.state.number at None (what.Expired r.op)))) (sym (tail_none (entries_of (Connection l.state.number) at (giving s l.state.ids.next (what.Own l.state.ids.next (abandon r.id)))))) (gives_own s (before ++ marked_up l.state.number at None (what.Expired r.op) ∷ []) (step_connection_ledger s l (marked_up l.state.number at None (what.Expired r.op))) at (le_same at) h.linked h.there None (abandon r.id) (ap not (names_none u (entries before) r.id (filter (λ q. not (same_op r.op q.op)) l.state.rows) (all_filter (is_sound u (entries before)) (λ q. not (same_op r.op q.op)) l.state.rows h.sound) (other_ids r l.state.rows h.apart.apart named))) refl (abandon_first s (step_connection_ledger s l (marked_up l.state.number at None (what.Expired r.op))).state (entries (before ++ marked_up l.state.number at None (what.Expired r.op) ∷ [])) l.state.number at l.state.ids.next r.id) expired_reason (λ i j. (ap (list_any (is_own (abandon i))) (push_entry before (marked_up l.state.number at None (what.Expired r.op))) ∙ none_of_both (is_own (abandon i)) (entries before) (up_entry l.state.number at (what.Expired r.op) ∷ []) (names_first (entries before) l.state (λ q. same_op r.op q.op) r h.apart named i j).0 refl, (names_first (entries before) l.state (λ q. same_op r.op q.op) r h.apart named i j).1, (names_first (entries before) l.state (λ q. same_op r.op q.op) r h.apart named i j).2))).0)
+  expires_chain = (permit_expired s l.state.number before l at h.later h.linked r.op r (unmarked l.state.number at (giving s l.state.ids.next (what.Own l.state.ids.next (abandon r.id)))) h.there named due (ap (λ b. if b then first_passes (is_down_by TimedOut) (entries (unmarked l.state.number at (giving s l.state.ids.next (what.Own l.state.ids.next (abandon r.id))))) else first_passes (is_own (abandon r.id)) (entries (unmarked l.state.number at (giving s l.state.ids.next (what.Own l.state.ids.next (abandon r.id)))))) (not_true (is_bind_row r) (no_bind u (entries before) r row_sound)) ∙ gives_first (is_own (abandon r.id)) (l.state.ids.next == s.id_limit) ∙ bytes_same (abandon r.id)) (gives_first (λ e. is_up e.what) (l.state.ids.next == s.id_limit)) (gives_first (λ e. is_retired e.what) (l.state.ids.next == s.id_limit)) (gives_first (is_down_by OwnBindFailed) (l.state.ids.next == s.id_limit)), subst (Chain s (before ++ marked_up l.state.number at None (what.Expired r.op) ∷ []) (step_connection_ledger s l (marked_up l.state.number at None (what.Expired r.op)))) (sym (tail_none (entries_of (Connection l.state.number) at (giving s l.state.ids.next (what.Own l.state.ids.next (abandon r.id)))))) (gives_own s (before ++ marked_up l.state.number at None (what.Expired r.op) ∷ []) (step_connection_ledger s l (marked_up l.state.number at None (what.Expired r.op))) at (le_same at) h.linked h.there None (abandon r.id) (ap not (names_none u (entries before) r.id (filter (λ q. not (same_op r.op q.op)) l.state.rows) (all_filter (is_sound u (entries before)) (λ q. not (same_op r.op q.op)) l.state.rows h.sound) (other_ids r l.state.rows h.apart.apart named))) refl (abandon_first s (step_connection_ledger s l (marked_up l.state.number at None (what.Expired r.op))).state (entries (before ++ marked_up l.state.number at None (what.Expired r.op) ∷ [])) l.state.number at l.state.ids.next r.id) expired_reason (λ i j. (ap (list_any (is_own (abandon i))) (push_entry before (marked_up l.state.number at None (what.Expired r.op))) ∙ none_of_both (is_own (abandon i)) (entries before) (up_entry l.state.number at (what.Expired r.op) ∷ []) (names_first (entries before) l.state (λ q. same_op r.op q.op) r h.apart named i j).0 refl, (names_first (entries before) l.state (λ q. same_op r.op q.op) r h.apart named i j).1, (names_first (entries before) l.state (λ q. same_op r.op q.op) r h.apart named i j).2))).0)
 
   -- the state behind it
   abbrev led : Bool → ConnectionLedger
