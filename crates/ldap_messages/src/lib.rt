@@ -14,7 +14,7 @@ mod requests;
 mod responses;
 
 pub use bodies::{abandon_rest, bind_rest, notice_rest, who_rest};
-pub use parts::{Part, tagged_part};
+pub use parts::{Part, first_part, tagged_part};
 pub use refusals::{refusal_rest, result_rest};
 pub use requests::{BindRequest, Method, Request, classify};
 pub use responses::{ResponseKind, fits, response_kind, result_code, who_value};

@@ -12,8 +12,8 @@ pub struct Part<'a> {
     pub behind: &'a [u8],
 }
 
-/// The first element, where one is whole.
-pub(crate) fn first_part(bytes: &[u8]) -> Option<Part<'_>>
+/// The first element, where one is whole. It lends parts of the bytes and takes no memory.
+pub fn first_part(bytes: &[u8]) -> Option<Part<'_>>
     ensures first { MatchOption result (first_element bytes.now ≡ None) (λ p. IsFirst (first_element bytes.now) p) }
     ensures lent { IfSome result (ArePartsOf bytes.now) }
 {
