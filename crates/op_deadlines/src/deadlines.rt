@@ -2,11 +2,11 @@ ghost use Rattle.std.specs.Prelude.{◌≡◌, [], IsSome, IsOk, OnOk, OnErr};
 ghost use Rattle.std.specs.Ordering.{nat_cmp};
 ghost use Rattle.std.specs.BTreeMap.{insert_entry, is_at};
 ghost use Rattle.std.specs.Map.{lookup, remove_entry, set_value};
-ghost use Rattle.op_deadlines.specs.Due.{is_due, lowest_due};
+ghost use Rattle.op_deadlines.specs.Due.{lowest_due};
 
+use crate::tree::Tree;
 use lload_names::NoMemory;
 use std::alloc::Global;
-use std::collections::BTreeMap;
 use std::marker::Model;
 
 /// The identifiers that wait, each with the moment from which it is counted (milliseconds), and the timeout of all
@@ -14,7 +14,8 @@ use std::marker::Model;
 #[derive(Drop)]
 pub struct Deadlines {
     timeout: u32,
-    moments: BTreeMap<u32, u64>,
+    moments: Tree,
+    alloc: Global,
 }
 
 impl Model for Deadlines {
@@ -22,7 +23,7 @@ impl Model for Deadlines {
 
     ghost Value = { Waiting };
 
-    ghost view = { λ d. record { timeout = d.timeout; moments = d.moments.entries } };
+    ghost view = { λ d. record { timeout = d.timeout; moments = d.moments } };
 }
 
 impl Deadlines {
@@ -32,7 +33,8 @@ impl Deadlines {
     {
         Deadlines {
             timeout,
-            moments: BTreeMap::new(alloc),
+            moments: Tree::new(),
+            alloc,
         }
     }
 
@@ -43,8 +45,7 @@ impl Deadlines {
         ensures err { OnErr result (self.new ≡ self.old) }
         ensures no_memory { IsSome (lookup (is_at (nat_cmp id)) self.old.moments) → IsOk result }
     {
-        self.moments.insert(id, now)?;
-        Ok(())
+        self.moments.start(self.alloc, id, now)
     }
 
     /// The identifier is counted from the moment `now` on, in milliseconds. Where it doesn't wait, nothing changes.
@@ -52,16 +53,14 @@ impl Deadlines {
     pub fn touch(&mut self, id: u32, now: u64)
         ensures touched { self.new ≡ record { timeout = self.old.timeout; moments = set_value (is_at (nat_cmp id)) self.old.moments now } }
     {
-        if let Some(moment) = self.moments.get_mut(&id) {
-            *moment = now;
-        }
+        self.moments.touch(id, now);
     }
 
     /// The identifier waits no more. Where it doesn't wait, nothing changes. It takes no memory.
     pub fn stop(&mut self, id: u32)
         ensures stopped { self.new ≡ record { timeout = self.old.timeout; moments = remove_entry (is_at (nat_cmp id)) self.old.moments } }
     {
-        self.moments.remove(&id);
+        self.moments.stop(id);
     }
 
     /// The lowest identifier that is due at the moment `now`, in milliseconds; `None` exactly where none is. It takes
@@ -69,18 +68,6 @@ impl Deadlines {
     pub fn first_due(&self, now: u64) -> Option<u32>
         ensures lowest { result ≡ lowest_due self.now.timeout now self.now.moments }
     {
-        for (id, moment) in self.moments.iter() {
-            if is_past(self.timeout, *moment, now) {
-                return Some(*id);
-            }
-        }
-        None
+        self.moments.first_due(self.timeout, now)
     }
-}
-
-/// Whether what is counted from a moment is due at `now`, both in milliseconds, with a timeout in seconds.
-fn is_past(timeout: u32, moment: u64, now: u64) -> bool
-    ensures { result ≡ is_due timeout now moment }
-{
-    timeout != 0 && now >= moment && now - moment >= 1000 * timeout as u64
 }

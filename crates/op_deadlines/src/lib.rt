@@ -8,5 +8,6 @@
 mod deadlines;
 #[cfg(test)]
 mod tests;
+mod tree;
 
 pub use deadlines::Deadlines;

@@ -28,3 +28,22 @@ fn a_thousand_identifiers_are_due_in_their_order(rt: HostRuntime) -> Result<(), 
     assert_eq!(rt; deadlines.first_due(1001), None);
     Ok(())
 }
+
+#[test]
+fn identifiers_wait_in_any_order(rt: HostRuntime) -> Result<(), Fail> {
+    let mut deadlines = Deadlines::new(rt.alloc(), 1);
+    for k in 0..1009 {
+        deadlines.start(k * 353 % 1009 * 4_000_000, 1)?;
+    }
+    deadlines.touch(0, 2);
+    deadlines.touch(12_000_000, 0);
+    assert_eq!(rt; deadlines.first_due(999), None);
+    assert_eq!(rt; deadlines.first_due(1000), Some(12_000_000));
+    assert_eq!(rt; deadlines.first_due(1001), Some(4_000_000));
+    assert_eq!(rt; deadlines.first_due(1002), Some(0));
+    for k in 0..1008 {
+        deadlines.stop(k * 4_000_000);
+    }
+    assert_eq!(rt; deadlines.first_due(1001), Some(4_032_000_000));
+    Ok(())
+}

@@ -1,0 +1,9 @@
+use Rattle.std.proofs.Common.{◌≡◌, ◌∷◌, [], arith, rules}
+use Rattle.op_deadlines.proofs.Forks.{beside-first}
+use Rattle.op_deadlines.proofs.tree.Tree.put_before.Goals as goal
+
+pub invariant_of-self : goal.invariant_of-self
+invariant_of-self c =
+    let one : c.in_ok-low.low.value ≡ (c.args.id, c.args.now) ∷ [] = search rules in
+    let rest : c.replace.result ≡ c.args.self.now = search rules in
+    beside-first c.args.id c.args.now c.args.first c.split_between-split.result c.args.last c.min-earliest.result c.in_ok-low.low.value c.args.self.now c.replace.result one rest c.requires.some c.requires.within c.split_between-split.ensures.above c.split_between-split.ensures.within (omega arith) (search rules)
