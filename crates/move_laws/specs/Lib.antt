@@ -1,0 +1,10 @@
+pub mod World
+pub mod Clients
+pub mod Conns
+pub mod Desks
+pub mod Moves
+pub mod Counts
+pub mod Agree
+pub mod AgreeBinds
+pub mod AgreePauses
+pub mod Fit

@@ -1,0 +1,13 @@
+pub mod Lists
+pub mod Books
+pub mod ClientSides
+pub mod ConnectionSides
+pub mod DeskSides
+pub mod Letters
+pub mod ClientStands
+pub mod DeskStands
+pub mod RegularStands
+pub mod BindStands
+pub mod Follows
+pub mod WorldStands
+pub mod Laws
