@@ -13,12 +13,13 @@ use Rattle.part_spec.specs.Share.{Share}
 use Rattle.part_spec.specs.Stamps.{Turn, list_of_turns, letters_of}
 use Rattle.part_spec.specs.World.{turns_in}
 use Rattle.part_spec.proofs.Folds.{desks-fold}
-use Rattle.part_laws.specs.Turns.{Event, Comes, Severed as EndOfLink, made, list_from, letters_given}
+use Rattle.part_laws.specs.Turns.{Event, made, list_from, letters_given}
 use Rattle.desk_laws.specs.Turns.{desk_event}
 use Rattle.desk_laws.proofs.DeskShare.{desk_gives, desk_shares}
 use Rattle.link_laws.specs.Moves.{waiting_between}
 use Rattle.link_laws.specs.Laws.{DeskTurnsGive, DeskGivesLaw, DeskLinksLaw, DeskSharesLaw}
 use Rattle.link_laws.proofs.Links.{links}
+use Rattle.link_laws.proofs.PartLists.{event_of}
 use Rattle.link_laws.proofs.Turns.{turns}
 
 same_fold : (s : Settings) (p : DeskState) (ms : List Marked) → ledger_behind (step_desk s) p ms ≡ step_desks s p ms
@@ -30,11 +31,6 @@ record Played (s : Settings) (p : DeskState) (ts : List Turn) : Type 0 where
   events : List Event
   lists : list_from (step_desk s) (desk_event s) p events ≡ list_of_turns ts
   given : letters_given (step_desk s) (desk_event s) p events ≡ letters_of ts
-
--- the event of an intake
-abbrev pub event_of : Intake → Event
-event_of (Takes input) = Comes input
-event_of (Severed now why) = EndOfLink now why
 
 event_made : (s : Settings) (before : List Marked) (t : Turn) (k : IsTurnOf s Desk before t) → (made (desk_event s) (desk_of s before) (event_of k.intake) ≡ t.entries) × ((desk_event s (desk_of s before) (event_of k.intake)).letters ≡ t.letters)
 event_made s before t k = by k.intake k.entries k.letters

@@ -5,5 +5,8 @@ pub mod States
 pub mod Turns
 pub mod Links
 pub mod Later
+pub mod PartLists
 pub mod DeskLinks
 pub mod ClientLinks
+pub mod ConnectionLinks
+pub mod Linked

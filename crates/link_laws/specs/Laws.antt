@@ -7,8 +7,9 @@ use Rattle.lload_spec.specs.Journal.{family}
 use Rattle.part_spec.specs.ClientState.{client_of}
 use Rattle.part_spec.specs.ConnectionState.{connection_of}
 use Rattle.part_spec.specs.DeskState.{desk_of}
-use Rattle.part_spec.specs.Linked.{IsBeginning, list_of}
+use Rattle.part_spec.specs.Linked.{IsBeginning, Linked, list_of}
 use Rattle.part_spec.specs.Marked.{entries, taken_from, letters_to}
+use Rattle.part_spec.specs.Fit.{is_all_fit}
 use Rattle.part_spec.specs.Gives.{gives}
 use Rattle.part_spec.specs.Marks.{has_right_marks}
 use Rattle.part_spec.specs.Merge.{Move, PartMove, AreTurns, moved, world_of}
@@ -99,3 +100,37 @@ abbrev pub ClientMarksLaw : Type 0
 ClientMarksLaw =
     (s : Settings) (ms : List PartMove) (c : ℕ) → IsTrue (end_rightly ms)
     → IsTrue (has_right_marks s (Client c) (list_in (world_of s ms) (Client c)))
+
+-- where links end for reasons that a link has, each connection's list keeps its share, up to the first letter that isn't
+-- fit
+abbrev pub ConnectionSharesLaw : Type 0
+ConnectionSharesLaw =
+    (s : Settings) (ms : List PartMove) (u : ℕ) → IsTrue (end_rightly ms)
+    → Share s (Connection u) (list_in (world_of s ms) (Connection u))
+
+-- where each letter that it took was fit too, what a connection gave is what its list gives
+abbrev pub ConnectionsGiveLaw : Type 0
+ConnectionsGiveLaw =
+    (s : Settings) (ms : List PartMove) (u : ℕ) → IsTrue (end_rightly ms)
+    → IsTrue (is_all_fit s (Connection u) (list_in (world_of s ms) (Connection u)))
+    → gives s (Connection u) (list_in (world_of s ms) (Connection u)) ≡ given_in (world_of s ms) (Connection u)
+
+-- and what each part took from a connection is a beginning of what the connection's list gives it
+abbrev pub ConnectionLinksLaw : Type 0
+ConnectionLinksLaw =
+    (s : Settings) (ms : List PartMove) (u : ℕ) → IsTrue (end_rightly ms)
+    → IsTrue (is_all_fit s (Connection u) (list_in (world_of s ms) (Connection u)))
+    → IsTrue (marks_moves s empty_world ms) → (q : PartName)
+    → IsBeginning (taken_from (Connection u) (list_in (world_of s ms) q))
+    (letters_to q (gives s (Connection u) (list_in (world_of s ms) (Connection u))))
+
+-- each letter of each part's list was fit where it was taken
+abbrev pub IsAllFit : Settings → World → Type 0
+IsAllFit s w = (p : PartName) → IsTrue (is_all_fit s p (list_in w p))
+
+-- where links end for reasons that a link has, and each letter was fit and has a mark, the lists of the parts are
+-- linked
+abbrev pub WorldsLinkedLaw : Type 0
+WorldsLinkedLaw =
+    (s : Settings) (ms : List PartMove) → IsTrue (end_rightly ms) → IsTrue (marks_moves s empty_world ms)
+    → IsAllFit s (world_of s ms) → Linked s (family (journal_of (world_of s ms))) (list_in (world_of s ms))

@@ -4,7 +4,7 @@
 //! moves make from the beginning.
 #![tactic(auto)]
 
-ghost use Rattle.link_laws.specs.Laws.{ClientLinksLaw, ClientMarksLaw, ClientsGiveLaw, DeskGivesLaw, DeskLinksLaw, DeskSharesLaw, DeskTurnsGive, EntriesLaw, LaterLaw, LinksLaw, LinksStay, StatesLaw, TurnsLaw};
+ghost use Rattle.link_laws.specs.Laws.{ClientLinksLaw, ClientMarksLaw, ClientsGiveLaw, ConnectionLinksLaw, ConnectionSharesLaw, ConnectionsGiveLaw, DeskGivesLaw, DeskLinksLaw, DeskSharesLaw, DeskTurnsGive, EntriesLaw, LaterLaw, LinksLaw, LinksStay, StatesLaw, TurnsLaw, WorldsLinkedLaw};
 
 /// Where each letter that was taken has a mark, what each part gave another is what this one took, and then what waits;
 /// and each mark has a greater stamp than its letter.
@@ -38,3 +38,21 @@ pub fn clients_are_linked()
     ensures beginning { ClientLinksLaw }
     ensures marks { ClientMarksLaw }
 {}
+
+/// Where links end for reasons that a link has, each connection's list keeps its share, up to the first letter that isn't
+/// fit. Where each letter that it took was fit, what it gave is what its list gives: so, where each letter that was taken
+/// has a mark, what each part took from it is a beginning of that.
+pub fn connections_are_linked()
+    ensures shares { ConnectionSharesLaw }
+    ensures gives { ConnectionsGiveLaw }
+    ensures beginning { ConnectionLinksLaw }
+{}
+
+/// Where links end for reasons that a link has, and each letter that was taken was fit and has a mark, the lists of the parts
+/// are linked: each has the right marks, has the part's entries of the journal, and took of each other what this gave it, in
+/// order.
+pub fn worlds_are_linked()
+    ensures linked { WorldsLinkedLaw }
+{
+    part_spec::a_fit_list_begins_with_all_of_it();
+}
