@@ -1,3 +1,4 @@
+pub mod Places
 mod Entries
 mod Index
 mod Standing

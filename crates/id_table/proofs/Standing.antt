@@ -1,5 +1,5 @@
 -- What stands of the live rows stands after each call.
-use Rattle.std.proofs.Common.{◌≡◌, ℕ, ◌<◌, true, false, cond, List, Some, None, Ok, Err, arith, refl, ap, subst, ◌∙◌, sym}
+use Rattle.std.proofs.Common.{◌≡◌, ℕ, ◌<◌, true, false, cond, List, Option, Some, None, Ok, Err, arith, refl, ap, subst, ◌∙◌, sym}
 use Rattle.std.specs.Prelude.{Result, is_err, OnOk, OnErr}
 use Rattle.std.specs.BTreeMap.{insert_entry, is_at}
 use Rattle.std.specs.BTreeSet.{BTreeSet, contains}
@@ -7,6 +7,7 @@ use Rattle.std.specs.Map.{lookup, remove_entry, set_value}
 use Rattle.std.specs.Ordering.{nat_cmp}
 use Rattle.lload_names.specs.declared.names.OpName.{OpName}
 use Rattle.id_table.specs.Rows.{row_of, put, without, changed, Rises, has_op}
+use Rattle.id_table.specs.Places.{with_found, changed_entry}
 use Rattle.id_table.specs.Filed.{rows_of, AreFiled, key_cmp, Indexes}
 use Rattle.id_table.specs.declared.row.Row.{Row}
 use Rattle.id_table.proofs.Entries.{row-lookup, rows-remove, filed-remove, rows-insert, filed-insert, rows-set, filed-set, rows-miss}
@@ -28,19 +29,26 @@ lookup-id : (id : ℕ) (es : List (ℕ × Row)) (r : Row) → AreFiled es → lo
 lookup-id id es r f h = same-id id (rows_of es) r (row-lookup id es f ∙ h)
 
 -- a found row is changed
-pub changed-rows : (change : Row → Row) (id : ℕ) (ids : BTreeSet (OpName × ℕ)) (es fs : List (ℕ × Row)) (r : Row) → Stands ids es → lookup (is_at (nat_cmp id)) es ≡ Some r → fs ≡ set_value (is_at (nat_cmp id)) es (change r) → rows_of fs ≡ changed change id (rows_of es)
+changed-rows : (change : Row → Row) (id : ℕ) (ids : BTreeSet (OpName × ℕ)) (es fs : List (ℕ × Row)) (r : Row) → Stands ids es → lookup (is_at (nat_cmp id)) es ≡ Some r → fs ≡ set_value (is_at (nat_cmp id)) es (change r) → rows_of fs ≡ changed change id (rows_of es)
 changed-rows change id ids es fs r s found e = ap rows_of e ∙ sym (rows-set change id es r s.0 found)
 
-pub changed-stands : (change : Row → Row) (id : ℕ) (ids : BTreeSet (OpName × ℕ)) (es fs : List (ℕ × Row)) (r : Row) → KeepsName change → Stands ids es → lookup (is_at (nat_cmp id)) es ≡ Some r → fs ≡ set_value (is_at (nat_cmp id)) es (change r) → Stands ids fs
+changed-stands : (change : Row → Row) (id : ℕ) (ids : BTreeSet (OpName × ℕ)) (es fs : List (ℕ × Row)) (r : Row) → KeepsName change → Stands ids es → lookup (is_at (nat_cmp id)) es ≡ Some r → fs ≡ set_value (is_at (nat_cmp id)) es (change r) → Stands ids fs
 changed-stands change id ids es fs r k s found e =
     let rows = changed-rows change id ids es fs r s found e in
     (subst AreFiled (sym e) (filed-set id es (change r) s.0 (k.id r ∙ lookup-id id es r s.0 found)), subst (λ (rs : List Row). Rises 0 rs 4294967296) (sym rows) (rises-changed change id 0 (rows_of es) 4294967296 k s.1), λ op j. s.2 op j ∙ sym (row-changed change id j op (rows_of es) k) ∙ ap (λ rs. has_op op (row_of j rs)) (sym rows))
 
-pub missed-rows : (change : Row → Row) (id : ℕ) (ids : BTreeSet (OpName × ℕ)) (es fs : List (ℕ × Row)) → Stands ids es → lookup (is_at (nat_cmp id)) es ≡ None → fs ≡ es → rows_of fs ≡ changed change id (rows_of es)
-missed-rows change id ids es fs s none e = ap rows_of e ∙ sym (rows-miss change id es s.0 none)
-
 pub same-stands : (ids : BTreeSet (OpName × ℕ)) (es fs : List (ℕ × Row)) → fs ≡ es → Stands ids es → Stands ids fs
 same-stands ids es fs e s = subst (Stands ids) (sym e) s
+
+-- a row is changed, where it is found
+changed-found : (change : Row → Row) (id : ℕ) (ids : BTreeSet (OpName × ℕ)) (es : List (ℕ × Row)) (o : Option Row) → KeepsName change → Stands ids es → lookup (is_at (nat_cmp id)) es ≡ o → Stands ids (with_found change id es o) × (rows_of (with_found change id es o) ≡ changed change id (rows_of es))
+changed-found change id ids es None k s f = (s, sym (rows-miss change id es s.0 f))
+changed-found change id ids es (Some r) k s f = (changed-stands change id ids es _ r k s f refl, changed-rows change id ids es _ r s f refl)
+
+pub entry-changed : (change : Row → Row) (id : ℕ) (ids : BTreeSet (OpName × ℕ)) (es fs : List (ℕ × Row)) → KeepsName change → Stands ids es → fs ≡ changed_entry change id es → Stands ids fs × (rows_of fs ≡ changed change id (rows_of es))
+entry-changed change id ids es fs k s e =
+    let h = changed-found change id ids es (lookup (is_at (nat_cmp id)) es) k s refl in
+    (subst (Stands ids) (sym e) h.0, ap rows_of e ∙ h.1)
 
 -- a row is put in
 pub put-rows : (r : Row) (ids : BTreeSet (OpName × ℕ)) (es fs : List (ℕ × Row)) → Stands ids es → row_of r.id (rows_of es) ≡ None → fs ≡ insert_entry nat_cmp es r.id r → rows_of fs ≡ put r (rows_of es)

@@ -6,6 +6,7 @@
 //! and one that goes leaves all others as they were; for want of memory nothing changes.
 #![tactic(auto)]
 
+mod filed;
 mod given;
 mod live;
 mod row;

@@ -2,16 +2,17 @@ ghost use Rattle.std.specs.Prelude.{◌≡◌, ◌≤◌, [], None, length, OnOk
 ghost use Rattle.std.specs.Option.{option_copied};
 ghost use Rattle.id_table.specs.Rows.{row_of, id_of, put, without, changed, answered, kept_back};
 
+use crate::filed::FiledRows;
 use crate::row::{Kept, Row};
 use lload_names::{NoMemory, OpName};
 use std::alloc::Global;
-use std::collections::{BTreeMap, BTreeSet};
+use std::collections::BTreeSet;
 use std::marker::Model;
 
 /// The live rows by rising identifier, with an index by operation.
 #[derive(Drop)]
 pub(crate) struct LiveRows {
-    rows: BTreeMap<u32, Row>,
+    rows: FiledRows,
     ids: BTreeSet<(OpName, u32)>,
 }
 
@@ -24,9 +25,9 @@ impl Model for LiveRows {
     ghost use Rattle.id_table.specs.Rows.{Rises};
     ghost use Rattle.id_table.specs.Filed.{rows_of, AreFiled, Indexes};
 
-    ghost view = { λ l. rows_of l.rows.entries };
+    ghost view = { λ l. rows_of l.rows };
 
-    ghost invariant = { λ l. AreFiled l.rows.entries × Rises 0 (rows_of l.rows.entries) 4294967296 × Indexes l.ids (rows_of l.rows.entries) };
+    ghost invariant = { λ l. AreFiled l.rows × Rises 0 (rows_of l.rows) 4294967296 × Indexes l.ids (rows_of l.rows) };
 }
 
 impl LiveRows {
@@ -35,7 +36,7 @@ impl LiveRows {
         ensures { result ≡ [] }
     {
         LiveRows {
-            rows: BTreeMap::new(alloc),
+            rows: FiledRows::new(alloc),
             ids: BTreeSet::new(alloc),
         }
     }
@@ -52,7 +53,7 @@ impl LiveRows {
     pub(crate) fn row(&self, id: u32) -> Option<&Row>
         ensures { option_copied result ≡ row_of id self.now }
     {
-        self.rows.get(&id)
+        self.rows.get(id)
     }
 
     /// The lowest identifier whose row has this operation.
@@ -84,7 +85,7 @@ impl LiveRows {
         ensures row { result ≡ row_of id self.old }
         ensures taken { self.new ≡ without id self.old }
     {
-        let row = self.rows.remove(&id)?;
+        let row = self.rows.remove(id)?;
         self.ids.remove(&(row.op, id));
         Some(row)
     }
@@ -93,18 +94,13 @@ impl LiveRows {
     pub(crate) fn touch(&mut self, id: u32, now: u64)
         ensures { self.new ≡ changed (answered now) id self.old }
     {
-        if let Some(row) = self.rows.get_mut(&id) {
-            row.last = now;
-        }
+        self.rows.touch(id, now);
     }
 
     /// Notes that the operation of an identifier was answered at a moment, and keeps the answer back.
     pub(crate) fn keep(&mut self, id: u32, now: u64, kept: Kept)
         ensures { self.new ≡ changed (kept_back now kept) id self.old }
     {
-        if let Some(row) = self.rows.get_mut(&id) {
-            row.last = now;
-            row.kept = Some(kept);
-        }
+        self.rows.keep(id, now, kept);
     }
 }

@@ -6,12 +6,14 @@
 #![tactic(auto)]
 
 mod entry;
+mod maker;
 mod numbers;
 mod read;
 mod words;
 
 pub use entry::entry_line;
 pub use lload_names::Command;
+pub use maker::{Maker, ROUNDS_LIMIT};
 pub use read::{LineFault, read_line};
 
 #[cfg(test)]

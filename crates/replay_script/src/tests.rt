@@ -2,7 +2,7 @@ ghost use Rattle.std.specs.Prelude.{IsTrue};
 ghost use Rattle.lload_spec.specs.Entries.{is_news};
 ghost use Rattle.lload_spec.specs.Writable.{can_be_written};
 
-use crate::{LineFault, entry_line, read_line};
+use crate::{LineFault, Maker, entry_line, read_line};
 use lload_names::{
     Answer, Body, Bound, ConnKind, EndWhy, Entry, Letter, OpName, PartName, Want, What,
 };
@@ -216,4 +216,44 @@ fn check(rt: &(impl Abort + AllocGlobal), part: PartName, what: What, words: &st
         (Ok(line), Ok(wanted)) => assert_eq!(rt; line.as_slice(), wanted.as_bytes()),
         _ => assert!(rt; false, "no memory"),
     }
+}
+
+/// The commands of so many rounds of the seed 7, behind the opening; their random words were computed apart, as PCG32 has
+/// them.
+const FOUR_ROUNDS: [&str; 17] = [
+    "client 2 bytes 30080201014A036F3D61",
+    "settle",
+    "up 1 bytes 300C0201016B070A010004000400",
+    "settle",
+    "client 7 bytes 30080201024A036F3D61",
+    "settle",
+    "up 4 bytes 300C0201016B070A010004000400",
+    "settle",
+    "client 6 bytes 30080201034A036F3D61",
+    "settle",
+    "up 2 bytes 300C0201016B070A010004000400",
+    "settle",
+    "client 5 bytes 3025020104632004000A01000A0100020100020100010100870B6F626A656374436C6173733000",
+    "settle",
+    "up 5 bytes 300C020101640704036F3D613000",
+    "up 5 bytes 300C02010165070A010004000400",
+    "settle",
+];
+
+#[test]
+fn a_script_is_made_from_a_seed(rt: HostRuntime) -> Result<(), Fail> {
+    let mut maker = Maker::new(rt.alloc(), 4, 7)?;
+    for _ in 0..13 {
+        assert!(rt; maker.next()?.is_some());
+    }
+    for line in FOUR_ROUNDS {
+        let wanted = read_line(rt.alloc(), line.as_bytes())?;
+        let wanted = format!(in rt.alloc(); "{wanted:?}")?;
+        let command = maker.next()?;
+        let text = format!(in rt.alloc(); "{command:?}")?;
+        let some = format!(in rt.alloc(); "Some({wanted})")?;
+        assert_eq!(rt; text.as_str(), some.as_str());
+    }
+    assert!(rt; maker.next()?.is_none());
+    Ok(())
 }

@@ -4,4 +4,4 @@ use Rattle.id_table.proofs.Entries.{rows-length}
 use Rattle.id_table.proofs.live.LiveRows.len.Goals as goal
 
 pub returns-clause-len : goal.returns-clause-len
-returns-clause-len c = c.len.ensures.len ∙ sym (rows-length c.self.inside.rows.entries) ∙ ap (length {A = Row}) c.self.view_is
+returns-clause-len c = c.len.ensures.len ∙ sym (rows-length c.self.inside.rows) ∙ ap (length {A = Row}) c.self.view_is
