@@ -26,7 +26,7 @@ use Rattle.lload_names.specs.declared.names.What.TheVariants as what
 use Rattle.lload_spec.specs.Settings.{Settings}
 use Rattle.lload_spec.specs.Entries.{out_message, makes_operation, is_link_reason}
 use Rattle.lload_spec.specs.Operations.{is_request_of, is_final_for}
-use Rattle.lload_spec.specs.Identity.{proxied, identity_of}
+use Rattle.lload_spec.specs.Identity.{identity_of}
 use Rattle.lload_spec.specs.FirstCheck.{Check, Ends, Unbinds, Abandons, Refuses, Answers, Cancels, GoesOn, live_request, is_in_use, check_request}
 use Rattle.lload_names.specs.declared.names.CancelAnswer.{CancelAnswer}
 use Rattle.lload_names.specs.declared.names.CancelAnswer.TheVariants.{C13, S1}
@@ -187,16 +187,12 @@ module _ (s : Settings) (c u at : ℕ) (place : List Entry) (p : ClientState) (h
       request_state : Bool → Bool → ClientState
       request_state b d = elim b [ false ↦ without (abandons m) at p | true ↦ elim d [ true ↦ with_bind s m p | false ↦ with_request s m p ] ]
 
-      put : Bool → Message
-      put b = elim b [ true ↦ m | false ↦ record m { rest = proxied s m.rest p.identity } ]
-
-      own : (b : Bool) → ((put b).id == m.id) ≡ true
-      own true = eqb_same m.id
-      own false = eqb_same m.id
+      own : ((new_row s p m).request.id == m.id) ≡ true
+      own = eqb_same m.id
 
       by : (b d : Bool) → is_request_of Bind m ≡ is_request_of Bind m → b ≡ true → list_any (λ r. r.request.id == m.id) (request_state b d).rows ≡ true
-      by true true q j = or_left ((new_row s p m).request.id == m.id) false (own (is_request_of Bind m))
-      by true false q j = list_any-append (λ r. r.request.id == m.id) p.rows (new_row s p m ∷ []) ∙ or_right (list_any (λ r. r.request.id == m.id) p.rows) _ (or_left ((new_row s p m).request.id == m.id) false (own (is_request_of Bind m)))
+      by true true q j = or_left ((new_row s p m).request.id == m.id) false own
+      by true false q j = list_any-append (λ r. r.request.id == m.id) p.rows (new_row s p m ∷ []) ∙ or_right (list_any (λ r. r.request.id == m.id) p.rows) _ (or_left ((new_row s p m).request.id == m.id) false own)
       by false d q j = absurd (let bad : false ≡ true = j in cc)
 
   -- the state behind the In of a message

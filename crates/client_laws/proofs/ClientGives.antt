@@ -5,7 +5,7 @@ use Rattle.std.specs.List.{list_all}
 use Rattle.std.proofs.lemmas.List.{append-nil}
 use Rattle.std.proofs.lemmas.List.Folds.{list_all-append}
 use Rattle.ldap_spec.specs.Messages.{Message}
-use Rattle.ldap_spec.specs.Kinds.{kind_of, is_unbind}
+use Rattle.ldap_spec.specs.Kinds.{kind_of, is_unbind, same_kind}
 use Rattle.ldap_spec.specs.Bodies.{refusal, cancel_answer, protocol_error_notice}
 use Rattle.ldap_spec.specs.Requests.{Request, BindRequest, UnbindRequest, AbandonRequest, ExtendedRequest, PlainRequest, request}
 use Rattle.lload_names.specs.declared.names.OpName.{OpName}
@@ -28,12 +28,11 @@ use Rattle.lload_names.specs.declared.names.What.TheVariants as what
 use Rattle.lload_names.specs.declared.inputs.Input.{Input}
 use Rattle.lload_names.specs.declared.inputs.Input.TheVariants.{Arrive, Message as MessageIn, LetterFrom, LinkGone, Stall, Flow}
 use Rattle.lload_names.specs.declared.inputs.Effects.{Effects}
-use Rattle.lload_spec.specs.Lists.{last}
+use Rattle.lload_spec.specs.Lists.{passes, last}
 use Rattle.std.proofs.lemmas.Grind.{flat_map-append}
 use Rattle.lload_spec.specs.Settings.{Settings}
 use Rattle.lload_spec.specs.Entries.{makes_operation, is_link_reason}
 use Rattle.lload_spec.specs.Operations.{is_request_of, is_final_for, abandons_id}
-use Rattle.lload_spec.specs.Identity.{proxied}
 use Rattle.lload_spec.specs.FirstCheck.{Check, Ends, Unbinds, Abandons, Refuses, Answers, Cancels, GoesOn, check_request, lets_go_on, is_in_use}
 use Rattle.part_spec.specs.Marked.{Marked, Taken}
 use Rattle.part_spec.specs.Inputs.{Act, act, nothing, entries_of, marked_by, letter_of, moment_for, to}
@@ -46,6 +45,7 @@ use Rattle.part_laws.proofs.Giving.{turns_give}
 use Rattle.part_laws.proofs.ListLaws.{all_kept, filter-all, not_true}
 use Rattle.client_laws.specs.Turns.{client_event, ClientGives}
 use Rattle.client_laws.proofs.CheckTests.{check_passes}
+use Rattle.client_laws.proofs.KindsKept.{carried_kind}
 use Rattle.client_laws.proofs.Matches.{left_by}
 use Rattle.client_laws.proofs.ClientLives.{forwarded_all, out_state_of}
 use Rattle.client_laws.proofs.ClientTurns.{client_turn_of}
@@ -68,15 +68,8 @@ ids_behind s at mark p (what.In id rest) h = by (makes_operation m) (is_request_
     m : Message
     m = record { id = id; rest = rest }
 
-    put : Bool → Message
-    put b = elim b [ true ↦ record { id = id; rest = rest } | false ↦ record { id = id; rest = proxied s rest p.identity } ]
-
-    same : (b : Bool) → (put b).id ≡ id
-    same true = refl
-    same false = refl
-
     new : makes_operation (record { id = id; rest = rest }) ≡ true → has_id (new_row s p (record { id = id; rest = rest })) ≡ true
-    new e = ap (λ n. not (n == 0)) (same (is_request_of Bind m)) ∙ left (not (id == 0)) _ (left (not (id == 0) && not (is_unbind rest)) _ e)
+    new e = left (not (id == 0)) _ (left (not (id == 0) && not (is_unbind rest)) _ e)
 
     by : (b d : Bool) → makes_operation (record { id = id; rest = rest }) ≡ b → HaveIds (in_state s at p (record { id = id; rest = rest }) b d)
     by false d e = all_kept has_id (λ r. not (abandons m r)) p.rows h
@@ -184,7 +177,7 @@ module _ (s : Settings) (at : ℕ) (p : ClientState) (m : Message) where
   no_drop k = drop_none (with_request s m p) (new_row s p m) (ap (λ b. elim b [ true ↦ held_connection p | false ↦ None ]) (unpinned k))
 
   new_bind : is_request_of Bind m ≡ true → is_bind_row (new_row s p m) ≡ true
-  new_bind e = ap (λ b. is_request_of Bind (elim b [ true ↦ m | false ↦ record m { rest = proxied s m.rest p.identity } ])) e ∙ e
+  new_bind e = ap (λ k. passes (same_kind Bind) k) (carried_kind s m p.identity) ∙ e
 
   -- what the In gives of a message that ends its client, and what the end gives behind it
   in_closing : is_abandoning (check_at s p m) ≡ false → lets_go_on (check_at s p m) ≡ false → (b d : Bool) → makes_operation m ≡ b → is_request_of Bind m ≡ d → (elim (b && d) [ true ↦ drops p | false ↦ [] ]) ++ closing (in_state s at p m b d) ≡ closing p

@@ -24,7 +24,7 @@ use Rattle.lload_spec.specs.Lists.{passes, last_passes}
 use Rattle.lload_spec.specs.Settings.{Settings}
 use Rattle.lload_spec.specs.Entries.{makes_operation, operation_message}
 use Rattle.lload_spec.specs.Operations.{Operation, Manner, Answered, Cancelled, Abandoned, Rebound, is_cancel_naming, tells_canceled, operations, operation_made, is_request_of, is_final_for, takes_id, is_abandon_of, is_bind_in, abandons_id, live_operations}
-use Rattle.lload_spec.specs.Identity.{proxied, identity_of}
+use Rattle.lload_spec.specs.Identity.{identity_of}
 use Rattle.part_spec.specs.Marked.{Taken}
 use Rattle.part_spec.specs.ClientState.{ClientState, ClientRow, client_behind, new_row, without, abandons, with_bind, with_request, with_answer, is_bind_row, row_under, row_named, who_told, forwarded, with_connection, with_choice}
 use Rattle.lload_spec.proofs.Growth.{left, right, both}
@@ -32,7 +32,7 @@ use Rattle.lload_laws.specs.ClientGrowth.{later_operation, new_operation}
 use Rattle.lload_laws.proofs.ClientGrowth.{count_stays, count_rises}
 use Rattle.lload_laws.proofs.ListLaws.{all_imply}
 use Rattle.part_laws.proofs.ListLaws.{filter-all, not_true, eqb_sym, le_same, all_kept}
-use Rattle.client_laws.proofs.KindsKept.{kind_kept}
+use Rattle.client_laws.proofs.KindsKept.{carried_kind}
 use Rattle.client_laws.proofs.Matches.{Match, Matches, matches_filter, matches_later, matches_push, ends_not, live_grow, is_apart, are_apart, is_untaken, ClientLives, left_by, out_rows}
 use Rattle.client_laws.proofs.NamesNone.{request_names_none}
 
@@ -235,18 +235,7 @@ module _ (s : Settings) (c : ℕ) (place : List Entry) (part : PartName) (at : �
   message_is = ap (λ b. elim b [ true ↦ Some (record { id = id; rest = rest }) | false ↦ None ]) makes
 
   row_is : Match (new_row s p (record { id = id; rest = rest })) (new_operation c place (entry_of part at (what.In id rest)) (record { id = id; rest = rest }))
-  row_is = record { k = ap suc h.count; id = same_id (is_request_of Bind (record { id = id; rest = rest })); kind = same_kind_of (is_request_of Bind (record { id = id; rest = rest })) }
-    where
-      put : Bool → Message
-      put b = elim b [ true ↦ record { id = id; rest = rest } | false ↦ record { id = id; rest = proxied s rest p.identity } ]
-
-      same_id : (b : Bool) → (put b).id ≡ id
-      same_id true = refl
-      same_id false = refl
-
-      same_kind_of : (b : Bool) → kind_of (put b).rest ≡ kind_of rest
-      same_kind_of true = refl
-      same_kind_of false = kind_kept s rest p.identity
+  row_is = record { k = ap suc h.count; id = refl; kind = carried_kind s (record { id = id; rest = rest }) p.identity }
 
   -- it is no Abandon
   no_abandon : (o : Operation) → is_abandon_of o.request (entry_of part at (what.In id rest)) ≡ false

@@ -1,11 +1,14 @@
 -- The kind of a request stays where the client's identity is put into it.
 use Rattle.std.proofs.Common.{◌≡◌, ℕ, suc, ◌+◌, Bool, true, false, ◌||◌, not, List, [], ◌∷◌, ◌++◌, length, take, drop, refl, ap, arith}
 use Rattle.std.specs.Prelude.{Option, Some, None, nat_le, if◌then◌else◌}
+use Rattle.ldap_spec.specs.Messages.{Message}
 use Rattle.ldap_spec.specs.Kinds.{kind_of, kind_of_tag, tag_of}
 use Rattle.ldap_spec.specs.Elements.{Element, whole_element, length_of, is_tag, length_size}
 use Rattle.ldap_spec.specs.Controls.{Control, with_first, list_with_first}
+use Rattle.lload_names.specs.declared.names.OpKind.TheVariants.{Bind}
 use Rattle.lload_spec.specs.Settings.{Settings, is_privileged}
-use Rattle.lload_spec.specs.Identity.{proxied, identity_control}
+use Rattle.lload_spec.specs.Operations.{is_request_of}
+use Rattle.lload_spec.specs.Identity.{proxied, carried_for, identity_control}
 
 pub tag_taken : (n t : ℕ) (xs : List ℕ) (ys : List ℕ) → tag_of (take (suc n) (t ∷ xs) ++ ys) ≡ t
 tag_taken n t xs ys = refl
@@ -30,9 +33,16 @@ kind_first c (t ∷ n ∷ xs) = by (is_tag t) (length_of (take (length_size n) (
     by true (Some size) = whole size (nat_le (suc (length_size n) + size) (length (t ∷ n ∷ xs)))
     by false o = refl
 
-pub kind_kept : (s : Settings) (rest who : List ℕ) → kind_of (proxied s rest who) ≡ kind_of rest
+kind_kept : (s : Settings) (rest who : List ℕ) → kind_of (proxied s rest who) ≡ kind_of rest
 kind_kept s rest who = by (not s.proxies_authorization || is_privileged s who)
   where
     by : (b : Bool) → kind_of (if b then rest else with_first (identity_control who) rest) ≡ kind_of rest
     by true = refl
     by false = kind_first (identity_control who) rest
+
+pub carried_kind : (s : Settings) (m : Message) (who : List ℕ) → kind_of (carried_for s m who) ≡ kind_of m.rest
+carried_kind s m who = by (is_request_of Bind m)
+  where
+    by : (b : Bool) → kind_of (if b then m.rest else proxied s m.rest who) ≡ kind_of m.rest
+    by true = refl
+    by false = kind_kept s m.rest who

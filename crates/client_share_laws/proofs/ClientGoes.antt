@@ -18,12 +18,12 @@ use Rattle.lload_spec.specs.Lists.{passes, first_passes, each_split_from, some_s
 use Rattle.lload_spec.specs.Settings.{Settings}
 use Rattle.lload_spec.specs.Entries.{in_message, gone_why, is_link_reason, is_notice}
 use Rattle.lload_spec.specs.FirstCheck.{Check, Ends, Unbinds, Abandons, Refuses, Answers, Cancels, GoesOn}
-use Rattle.lload_spec.specs.Caused.{is_unbound}
+use Rattle.lload_spec.specs.Caused.{is_unbound, ends_for}
 use Rattle.part_spec.specs.Marked.{Marked, Taken, entries}
 use Rattle.part_spec.specs.Inputs.{entries_of}
 use Rattle.part_spec.specs.ClientState.{ClientState, empty_client, step_client, client_of, facts_of, check_at, row_named}
 use Rattle.part_spec.specs.ClientTurn.{refused, canceled, whats_by, whats_for}
-use Rattle.part_spec.specs.Share.{ends_for, is_ended_by_check, has_gone_cause, is_gone_caused}
+use Rattle.part_spec.specs.Share.{is_ended_by_check, has_gone_cause, is_gone_caused}
 use Rattle.part_spec.specs.Fit.{ledger_behind as behind}
 use Rattle.lload_spec.proofs.Growth.{left, right, both}
 use Rattle.part_laws.specs.Turns.{Event, made}

@@ -42,13 +42,17 @@ use Rattle.client_share_laws.proofs.ClientCases.{Cases, taken, event_case}
 use Rattle.client_share_laws.proofs.RowsGone.{row_open, event_gone}
 use Rattle.client_share_laws.proofs.ClientKept.{kept_always}
 
+-- whether an entry is a client's, and stands where one may in its life
+abbrev in_order : List Entry → Entry → Bool
+in_order place e = is_of_client e.what && lives_as_client place e
+
 abbrev Ordered : List Entry → List Entry → Type 0
-Ordered place es = each_split_from (λ b e x. lives_as_client b e) place es ≡ true
+Ordered place es = each_split_from (λ b e x. in_order b e) place es ≡ true
 
 -- the list begins with Arrived
 begins : (place : List Entry) → Ordered [] place → is_empty place ≡ not (list_any (λ e. is_arrived e.what) place)
 begins [] h = refl
-begins (e ∷ es) h = by (is_arrived e.what) (right (is_of_client e.what) _ (left (is_of_client e.what && agrees (is_arrived e.what) true) _ (left (lives_as_client [] e) _ h)))
+begins (e ∷ es) h = by (is_arrived e.what) (left (agrees (is_arrived e.what) true) _ (right (is_of_client e.what) _ (left (in_order [] e) _ h)))
   where
     by : (b : Bool) → agrees b true ≡ true → false ≡ not (b || list_any (λ x. is_arrived x.what) es)
     by true k = refl
@@ -62,8 +66,8 @@ empty_more : (place : List Entry) (e : Entry) → is_empty (place ++ e ∷ []) �
 empty_more [] e = refl
 empty_more (x ∷ place) e = refl
 
-entry_ordered : (place : List Entry) (e : Entry) → is_plain e.what ≡ true → is_empty place ≡ false → implies (list_any is_gone place) (may_follow_gone e.what) ≡ true → lives_as_client place e ≡ true
-entry_ordered place e h n g = both (is_of_client e.what && agrees (is_arrived e.what) (is_empty place)) _ (both (is_of_client e.what) _ (left (is_of_client e.what) _ h) (ap (λ b. agrees b (is_empty place)) (not_true (is_arrived e.what) (right (is_of_client e.what) _ h)) ∙ ap (agrees false) n)) g
+entry_ordered : (place : List Entry) (e : Entry) → is_plain e.what ≡ true → is_empty place ≡ false → implies (list_any is_gone place) (may_follow_gone e.what) ≡ true → in_order place e ≡ true
+entry_ordered place e h n g = both (is_of_client e.what) _ (left (is_of_client e.what) _ h) (both (agrees (is_arrived e.what) (is_empty place)) _ (ap (λ b. agrees b (is_empty place)) (not_true (is_arrived e.what) (right (is_of_client e.what) _ h)) ∙ ap (agrees false) n) g)
 
 before_gone : (place : List Entry) (w : What) → list_any is_gone place ≡ false → implies (list_any is_gone place) (may_follow_gone w) ≡ true
 before_gone place w g = ap (λ b. implies b (may_follow_gone w)) g
@@ -77,14 +81,14 @@ module _ (u at : ℕ) where
   plain_ordered [] place n g h = refl
   plain_ordered (w ∷ ws) place n g h =
       let first : (is_plain w && not (is_gone (entry_of w))) ≡ true = left (is_plain w && not (is_gone (entry_of w))) _ h in
-      both (lives_as_client place (entry_of w)) _ (entry_ordered place (entry_of w) (left (is_plain w) _ first) n (before_gone place w g)) (plain_ordered ws (place ++ entry_of w ∷ []) (empty_more place (entry_of w)) (none_of_both is_gone place (entry_of w ∷ []) g (ap (λ b. b || false) (not_true (is_gone (entry_of w)) (right (is_plain w) _ first)))) (right (is_plain w && not (is_gone (entry_of w))) _ h))
+      both (in_order place (entry_of w)) _ (entry_ordered place (entry_of w) (left (is_plain w) _ first) n (before_gone place w g)) (plain_ordered ws (place ++ entry_of w ∷ []) (empty_more place (entry_of w)) (none_of_both is_gone place (entry_of w ∷ []) g (ap (λ b. b || false) (not_true (is_gone (entry_of w)) (right (is_plain w) _ first)))) (right (is_plain w && not (is_gone (entry_of w))) _ h))
 
   gone_ordered : (why : EndWhy) (place : List Entry) → is_empty place ≡ false → list_any is_gone place ≡ false → Ordered place (entries_of (Client u) at (what.Gone why ∷ []))
-  gone_ordered why place n g = both (lives_as_client place (entry_of (what.Gone why))) true (entry_ordered place (entry_of (what.Gone why)) refl n (before_gone place (what.Gone why) g)) refl
+  gone_ordered why place n g = both (in_order place (entry_of (what.Gone why))) true (entry_ordered place (entry_of (what.Gone why)) refl n (before_gone place (what.Gone why) g)) refl
 
   -- one before others
   first_ordered : (w : What) (ws : List What) (place : List Entry) → is_empty place ≡ false → list_any is_gone place ≡ false → is_plain w ≡ true → Ordered (place ++ entry_of w ∷ []) (entries_of (Client u) at ws) → Ordered place (entries_of (Client u) at (w ∷ ws))
-  first_ordered w ws place n g h k = both (lives_as_client place (entry_of w)) _ (entry_ordered place (entry_of w) h n (before_gone place w g)) k
+  first_ordered w ws place n g h k = both (in_order place (entry_of w)) _ (entry_ordered place (entry_of w) h n (before_gone place w g)) k
 
 module _ (s : Settings) (place : List Entry) (p : ClientState) (arrived : is_empty place ≡ not p.arrived) (gone : p.gone ≡ list_any is_gone place) (empty : p.gone ≡ true → p.rows ≡ []) where
   begun : p.arrived ≡ true → is_empty place ≡ false
@@ -124,7 +128,7 @@ module _ (s : Settings) (place : List Entry) (p : ClientState) (arrived : is_emp
       by GoesOn = plain [] refl
 
   choice_ordered : (at : ℕ) (op : OpName) (a : Answer) → p.arrived ≡ true → Ordered place (entries_of (Client p.number) at (what.Chosen op a ∷ whats_for (row_named p op) a))
-  choice_ordered at op a here = both (lives_as_client place (record { part = Client p.number; at = at; what = what.Chosen op a })) _ (entry_ordered place (record { part = Client p.number; at = at; what = what.Chosen op a }) refl (begun here) (follows (list_any is_gone place))) (by (row_named p op) a refl)
+  choice_ordered at op a here = both (in_order place (record { part = Client p.number; at = at; what = what.Chosen op a })) _ (entry_ordered place (record { part = Client p.number; at = at; what = what.Chosen op a }) refl (begun here) (follows (list_any is_gone place))) (by (row_named p op) a refl)
     where
       follows : (b : Bool) → implies b true ≡ true
       follows true = refl
@@ -145,10 +149,10 @@ module _ (s : Settings) (place : List Entry) (p : ClientState) (arrived : is_emp
   TurnOrdered ms = Ordered place (entries ms)
 
   turn : (at : ℕ) (mark : Option Taken) (ws : List What) → Ordered place (entries_of (Client p.number) at ws) → TurnOrdered (client_turn_of p.number at mark ws)
-  turn at mark ws h = ap (each_split_from (λ b e x. lives_as_client b e) place) (entries_marked mark (entries_of (Client p.number) at ws)) ∙ h
+  turn at mark ws h = ap (each_split_from (λ b e x. in_order b e) place) (entries_marked mark (entries_of (Client p.number) at ws)) ∙ h
 
   arrived_first : (at : ℕ) → p.arrived ≡ false → p.gone ≡ false → Ordered place (entries_of (Client p.number) at (what.Arrived ∷ []))
-  arrived_first at fresh g = both (lives_as_client place (record { part = Client p.number; at = at; what = what.Arrived })) true (both (agrees true (is_empty place)) _ (ap (agrees true) (arrived ∙ ap not fresh)) (before_gone place what.Arrived (sym gone ∙ g))) refl
+  arrived_first at fresh g = both (in_order place (record { part = Client p.number; at = at; what = what.Arrived })) true (both (agrees true (is_empty place)) _ (ap (agrees true) (arrived ∙ ap not fresh)) (before_gone place what.Arrived (sym gone ∙ g))) refl
 
   ordered_cases : (p.arrived ≡ false → p.gone ≡ false) → Cases s p TurnOrdered
   ordered_cases ungone =
@@ -159,7 +163,7 @@ module _ (s : Settings) (place : List Entry) (p : ClientState) (arrived : is_emp
         chosen = λ at sender op a here. turn at (taken sender (Choice op a)) (what.Chosen op a ∷ whats_for (row_named p op) a) (choice_ordered at op a here);
         answered = λ at sender op rest is_last who r e here. turn at (taken sender (Reply op rest is_last who)) (what.Out r.request.id rest ∷ []) (plain_ordered p.number at (what.Out r.request.id rest ∷ []) place (begun here) (open_row op r e) refl);
         failed = λ at sender op which r e here. turn at (taken sender (Failed op which)) (refused r.request which) (plain_ordered p.number at (refused r.request which) place (begun here) (open_row op r e) (refused_all (λ w. is_plain w && not (is_gone (record { part = Client p.number; at = at; what = w }))) (λ id rest. refl) r.request which));
-        late = λ at mark op e here. turn at mark (what.Late op ∷ []) (both (lives_as_client place (record { part = Client p.number; at = at; what = what.Late op })) true (entry_ordered place (record { part = Client p.number; at = at; what = what.Late op }) refl (begun here) (always (list_any is_gone place))) refl);
+        late = λ at mark op e here. turn at mark (what.Late op ∷ []) (both (in_order place (record { part = Client p.number; at = at; what = what.Late op })) true (entry_ordered place (record { part = Client p.number; at = at; what = what.Late op }) refl (begun here) (always (list_any is_gone place))) refl);
         breaks = λ at why h e n. turn at None (noticed why) (first_ordered p.number at (what.Out 0 protocol_error_notice) (what.Gone why ∷ []) place (begun (left p.arrived _ h)) (open_there h) refl (gone_ordered p.number at why (place ++ record { part = Client p.number; at = at; what = what.Out 0 protocol_error_notice } ∷ []) (empty_more place (record { part = Client p.number; at = at; what = what.Out 0 protocol_error_notice })) (none_of_both is_gone place (record { part = Client p.number; at = at; what = what.Out 0 protocol_error_notice } ∷ []) (open_there h) refl)));
         severed = λ at why h e. turn at None (what.Gone why ∷ []) (gone_ordered p.number at why place (begun (left p.arrived _ h)) (open_there h));
         stalls = λ at h. turn at None (what.Stalled ∷ []) (plain_ordered p.number at (what.Stalled ∷ []) place (begun (left p.arrived _ h)) (open_there h) refl);
@@ -184,7 +188,7 @@ kept_more s c before p x h k =
     let fresh : is_empty (entries before) ≡ not p.arrived = begins (entries before) k.ordered ∙ ap not (sym h.says.arrived) in
     record {
       empty = event_gone s p k.empty x;
-      ordered = ap (each_split_from (λ b e r. lives_as_client b e) []) (map-append (λ m. m.entry) before (made (client_event s) p x)) ∙ splits_grow (λ b e r. lives_as_client b e) [] (entries before) (entries (made (client_event s) p x)) (λ b e r j. j) k.ordered (event_case s p (TurnOrdered s (entries before) p fresh h.says.gone k.empty) (ordered_cases s (entries before) p fresh h.says.gone k.empty (λ e. h.says.gone ∙ none_gone (entries before) (fresh ∙ ap not e))) x);
+      ordered = ap (each_split_from (λ b e r. in_order b e) []) (map-append (λ m. m.entry) before (made (client_event s) p x)) ∙ splits_grow (λ b e r. in_order b e) [] (entries before) (entries (made (client_event s) p x)) (λ b e r j. j) k.ordered (event_case s p (TurnOrdered s (entries before) p fresh h.says.gone k.empty) (ordered_cases s (entries before) p fresh h.says.gone k.empty (λ e. h.says.gone ∙ none_gone (entries before) (fresh ∙ ap not e))) x);
     }
 
 pub client_in_order : ClientInOrder

@@ -21,7 +21,6 @@ use Rattle.lload_names.specs.declared.names.What.TheVariants as what
 use Rattle.lload_spec.specs.Settings.{Settings}
 use Rattle.lload_spec.specs.Entries.{operation_message, makes_operation}
 use Rattle.lload_spec.specs.Operations.{is_final_for, is_request_of, abandons_id}
-use Rattle.lload_spec.specs.Identity.{proxied}
 use Rattle.lload_spec.specs.FirstCheck.{Check, Ends, Unbinds, Abandons, Refuses, Answers, Cancels, GoesOn, check_request, is_in_use}
 use Rattle.part_spec.specs.Marked.{Marked, Taken}
 use Rattle.part_spec.specs.Inputs.{entries_of}
@@ -32,7 +31,7 @@ use Rattle.lload_spec.proofs.Growth.{left, right, both}
 use Rattle.part_laws.specs.Turns.{Event, made}
 use Rattle.part_laws.proofs.ListLaws.{all_kept, not_true, eqb_same}
 use Rattle.client_laws.specs.Turns.{client_event}
-use Rattle.client_laws.proofs.KindsKept.{kind_kept}
+use Rattle.client_laws.proofs.KindsKept.{carried_kind}
 use Rattle.client_laws.proofs.NamesNone.{request_names_none, is_unbind_request, request_is_no_unbind}
 use Rattle.client_laws.proofs.ClientKinds.{is_operation, request_kind}
 use Rattle.client_laws.proofs.Matches.{left_by}
@@ -79,15 +78,8 @@ module _ (s : Settings) (at : ℕ) (mark : Option Taken) (p : ClientState) (h : 
   kinds_in : (m : Message) (b d : Bool) → (b ≡ true → is_some (kind_of m.rest) ≡ true) → list_all has_kind (in_state s at p m b d).rows ≡ true
   kinds_in m b d f = by b d f
     where
-      put : Bool → Message
-      put x = elim x [ true ↦ m | false ↦ record m { rest = proxied s m.rest p.identity } ]
-
-      kept : (x : Bool) → kind_of (put x).rest ≡ kind_of m.rest
-      kept true = refl
-      kept false = kind_kept s m.rest p.identity
-
       new : is_some (kind_of m.rest) ≡ true → has_kind (new_row s p m) ≡ true
-      new k = ap is_some (kept (is_request_of Bind m)) ∙ k
+      new k = ap is_some (carried_kind s m p.identity) ∙ k
 
       by : (x y : Bool) → (x ≡ true → is_some (kind_of m.rest) ≡ true) → list_all has_kind (in_state s at p m x y).rows ≡ true
       by false y g = all_kept has_kind (λ r. not (abandons m r)) p.rows h

@@ -63,8 +63,8 @@ module _ (s : Settings) (u : ℕ) (before : List Marked) (l : ConnectionLedger) 
   one_missed = ap (λ b. implies (is_some (missed_op m.entry.what)) b && implies (is_some (sent_message m.entry.what)) (not b)) closed ∙ k.stopped
 
   -- a connection's life
-  pub one_life : lives_as_connection (entries before) m.entry ≡ true
-  one_life = both (is_of_connection m.entry.what && agrees (is_linked m.entry.what) (is_empty (entries before)) && implies (list_any is_down (entries before)) (may_follow_down m.entry.what)) _ (both (is_of_connection m.entry.what && agrees (is_linked m.entry.what) (is_empty (entries before))) _ (both (is_of_connection m.entry.what) _ k.of_connection (ap (agrees (is_linked m.entry.what)) h.begins ∙ k.begun)) (ap (λ b. implies b (may_follow_down m.entry.what)) (sym h.says.down) ∙ k.alive)) (ap (implies (is_some (sent_message m.entry.what))) (sym h.says.up) ∙ k.up)
+  pub one_life : (is_of_connection m.entry.what && lives_as_connection (entries before) m.entry) ≡ true
+  one_life = both (is_of_connection m.entry.what) _ k.of_connection (both (agrees (is_linked m.entry.what) (is_empty (entries before)) && implies (list_any is_down (entries before)) (may_follow_down m.entry.what)) _ (both (agrees (is_linked m.entry.what) (is_empty (entries before))) _ (ap (agrees (is_linked m.entry.what)) h.begins ∙ k.begun) (ap (λ b. implies b (may_follow_down m.entry.what)) (sym h.says.down) ∙ k.alive)) (ap (implies (is_some (sent_message m.entry.what))) (sym h.says.up) ∙ k.up))
 
   -- one Sent
   pub one_sent : is_sent_once l.state (entries before) m ≡ true
@@ -215,7 +215,7 @@ module _ (s : Settings) (u : ℕ) (before : List Marked) (l : ConnectionLedger) 
         bad_messages = by_places (λ q c m d. is_bad_told q m d) (λ q c x d j. bad_stays ms q x d j) (λ b i m d g p. p.bad) h.bad_messages;
         down = by_places (λ q c m d. is_down_caused s q (entries c) m) (λ q c x d j. j) (λ b i m d g p. one_down s u b i m d g p) h.down;
         moments = by_splits (λ place e d. is_later place e) (λ c x d j. j) (λ b i m d g p. one_moment s u b i m d g p) h.moments;
-        lives = by_splits (λ place e d. lives_as_connection place e) (λ c x d j. j) (λ b i m d g p. one_life s u b i m d g p) h.lives;
+        lives = by_splits (λ place e d. is_of_connection e.what && lives_as_connection place e) (λ c x d j. j) (λ b i m d g p. one_life s u b i m d g p) h.lives;
       }
     where
       behind_both : (q : ConnectionState) (b : List Marked) → behind (step_connection s) q (b ++ ms) ≡ behind (step_connection s) (behind (step_connection s) q b) ms

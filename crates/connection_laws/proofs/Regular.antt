@@ -1,6 +1,6 @@
 -- The rules of a regular connection: each makes a turn of permitted entries.
 use Rattle.std.proofs.Common.{◌≡◌, ℕ, Bool, true, false, ◌==◌, ◌&&◌, ◌||◌, not, List, [], ◌∷◌, ◌++◌, refl, ap, ◌∙◌, sym, subst}
-use Rattle.std.specs.Prelude.{Option, Some, None, find, is_none, nat_le, nat_lt, if◌then◌else◌}
+use Rattle.std.specs.Prelude.{Option, Some, None, find, nat_le, nat_lt, if◌then◌else◌}
 use Rattle.std.specs.List.{list_any, list_all}
 use Rattle.ldap_spec.specs.Messages.{Message}
 use Rattle.ldap_spec.specs.Kinds.{tag_of, is_final}
@@ -18,7 +18,7 @@ use Rattle.lload_spec.specs.Settings.{Settings}
 use Rattle.lload_spec.specs.Entries.{is_up, is_retired, is_down_by, is_own, same_why}
 use Rattle.part_spec.specs.Marks.{has_connection_mark}
 use Rattle.part_spec.specs.Inputs.{Act, act, nothing, entries_of, marked_by, reply}
-use Rattle.part_spec.specs.ConnectionState.{UpRow, is_stopped, is_bind, is_first_bind, is_bind_row, is_under, is_under_own, Kept, OwnWait, keeps_back, message_facts}
+use Rattle.part_spec.specs.ConnectionState.{UpRow, is_stopped, is_bind, is_first_bind, is_bind_row, is_under, is_under_own, OwnWait, keeps_back, message_facts}
 use Rattle.part_spec.specs.ConnectionTurn.{giving, goes_down, comes_up, latency, ended}
 use Rattle.lload_spec.specs.BadMessages.{is_bad, is_bad_other, is_ignored}
 use Rattle.lload_spec.specs.Identifiers.{id_for}
@@ -84,10 +84,6 @@ none_sound u place t (r ∷ rows) f h = ap (λ b. b || list_any t rows) (f r (le
 pub and_not : (a b : Bool) → not b ≡ true → (a && b) ≡ false
 and_not true b h = not_true b h
 and_not false b h = refl
-
-pub unkept : (o : Option Kept) (t : Kept → Bool) → is_none o ≡ true → passes t o ≡ false
-unkept None t h = refl
-unkept (Some k) t h = absurd (let bad : false ≡ true = h in cc)
 
 module _ (s : Settings) (u : ℕ) (before : List Marked) (l : ConnectionLedger) (at : ℕ) (later : nat_le l.state.moment at ≡ true) (linked : l.state.linked ≡ true) (there : l.state.down ≡ false) (sound : list_all (is_sound u (entries before)) l.state.rows ≡ true) (above : is_under_own l.state 0 ≡ false) (free : is_waiting l.state.waiting ≡ false) (m : Message) where
   v : ℕ

@@ -22,7 +22,6 @@ use Rattle.lload_laws.proofs.ListLaws.{all_imply, found, bytes_same}
 use Rattle.part_laws.proofs.ListLaws.{not_true, eqb_sym, same_number}
 use Rattle.connection_laws.proofs.Rows.{is_sound, no_bind, not_kept}
 use Rattle.connection_laws.proofs.Apart.{is_apart, are_apart, or_false_left, or_false_right}
-use Rattle.connection_laws.proofs.Regular.{unkept}
 use Rattle.connection_laws.proofs.RegularTicks.{other_row}
 
 -- an own message that abandons no row gives nothing
@@ -54,12 +53,16 @@ none_is : (o : Option Kept) → is_none o ≡ true → is_some o ≡ false
 none_is None j = refl
 none_is (Some x) j = absurd (let bad : false ≡ true = j in cc)
 
+not_awaited : (id : ℕ) (o : Option Kept) → is_none o ≡ true → passes (λ who. who == id) (elim o [ None ↦ None | Some k ↦ k.who ]) ≡ false
+not_awaited id None j = refl
+not_awaited id (Some k) j = absurd (let bad : false ≡ true = j in cc)
+
 module _ (at : ℕ) (m : Message) where
   abbrev message_by : UpRow → Bool → Bool → List UpRow
   message_by r a c = elim a [ true ↦ behind_answer at m.rest r | false ↦ elim c [ true ↦ behind_who at m.rest r | false ↦ r ∷ [] ] ]
 
   other_stays : (r : UpRow) → is_none r.kept ≡ true → (r.id == m.id) ≡ false → behind_message at m r ≡ r ∷ []
-  other_stays r k e = ap (λ b. message_by r (b && not (is_kept r)) (is_under_who m.id r)) e ∙ ap (message_by r false) (unkept r.kept (λ x. passes (λ who. who == m.id) x.who) k)
+  other_stays r k e = ap (λ b. message_by r (b && not (is_kept r)) (is_under_who m.id r)) e ∙ ap (message_by r false) (not_awaited m.id r.kept k)
 
   others_stay : (u : ℕ) (place : List Entry) (rows : List UpRow) → list_all (is_sound u place) rows ≡ true → list_all (λ q. not (q.id == m.id)) rows ≡ true → flat_map (behind_message at m) rows ≡ rows
   others_stay u place [] h k = refl

@@ -17,13 +17,13 @@ use Rattle.lload_names.specs.declared.names.What.TheVariants as what
 use Rattle.lload_spec.specs.Lists.{passes, last, first_passes, each_split_from}
 use Rattle.lload_spec.specs.Settings.{Settings}
 use Rattle.lload_spec.specs.Journal.{same_op, same_answer, same_part}
-use Rattle.lload_spec.specs.Entries.{Named, asked, heard}
+use Rattle.lload_spec.specs.Entries.{Named, asked, heard, is_of_desk}
 use Rattle.lload_spec.specs.Caused.{is_later}
 use Rattle.lload_spec.specs.Order.{up_told, plan_number, desk_facts}
 use Rattle.lload_spec.specs.News.{tells_up, tells_down, tells_stopped, tells_over, tells_ended, tells_returned, same_news}
 use Rattle.lload_spec.specs.Choice.{right_answer}
 use Rattle.lload_spec.specs.Right.{is_answered, is_right_choice, is_right_for, is_right_plan, is_next_plan, chooses_for}
-use Rattle.lload_spec.specs.Strict.{is_asked_for}
+use Rattle.lload_spec.specs.Strict.{is_asked_for, has_place_in_desk}
 use Rattle.part_spec.specs.Marked.{Marked, Taken, entries}
 use Rattle.part_spec.specs.Marks.{marks_desk, has_desk_mark}
 use Rattle.part_spec.specs.Gives.{desk_letters, desk_gives as desk_gives_from}
@@ -34,7 +34,7 @@ use Rattle.part_spec.specs.Inputs.{act, nothing, effects_of, marked_by}
 use Rattle.part_spec.specs.DeskState.{DeskState, empty_desk, step_desk, step_desks, desk_of, facts_of}
 use Rattle.part_spec.specs.DeskTurn.{answer_to, is_taken}
 use Rattle.part_spec.specs.Fit.{DeskLedger, empty_desk_ledger, step_desk_ledger, fits_desk, is_unfit, is_none_taken, is_pending, is_of_sender, ledger_behind as behind}
-use Rattle.part_spec.specs.Share.{has_place_in_desk, DeskShare}
+use Rattle.part_spec.specs.Share.{DeskShare}
 use Rattle.lload_spec.proofs.Growth.{left, right, both}
 use Rattle.lload_laws.proofs.ListLaws.{any_imply, passes_imply}
 use Rattle.part_laws.specs.Turns.{Event, Comes, letter_with, made}
@@ -101,7 +101,7 @@ abbrev is_later_at : List Entry → Entry → List Entry → Bool
 is_later_at place e behind = is_later place e
 
 abbrev has_place_at : List Entry → Entry → List Entry → Bool
-has_place_at place e behind = has_place_in_desk place e
+has_place_at place e behind = is_of_desk e.what && has_place_in_desk place e
 
 -- What is kept behind each turn.
 pub record DeskKeeps (s : Settings) (before : List Marked) (l : DeskLedger) : Type 0 where

@@ -13,14 +13,14 @@ use Rattle.part_spec.specs.Fit.{ledger_behind}
 use Rattle.part_spec.specs.Gives.{gives}
 use Rattle.part_spec.specs.Inputs.{marked_by}
 use Rattle.part_spec.specs.Marked.{Marked, letters_to}
-use Rattle.part_spec.specs.Merge.{Intake, Takes, Severed, letter_in}
+use Rattle.part_spec.specs.Merge.{Intake, Takes, Severed, PartMove, letter_in, world_of}
 use Rattle.part_spec.specs.World.{World, empty_world, behind, client_in, list_in, given_in}
 use Rattle.part_laws.specs.Turns.{Event, made, list_from, letters_given, no_effects}
 use Rattle.client_laws.specs.Turns.{client_event, client_list}
 use Rattle.client_laws.proofs.ClientGives.{client_gives_so}
 use Rattle.client_laws.proofs.ClientMarks.{client_marks}
 use Rattle.part_spec.specs.Marks.{has_right_marks}
-use Rattle.link_laws.specs.Moves.{PartMove, world_of, waiting_between, effects_in, ends_rightly, end_rightly}
+use Rattle.link_laws.specs.Moves.{waiting_between, effects_in, ends_rightly, end_rightly}
 use Rattle.link_laws.specs.Laws.{StatesAreOfLists, ClientsGiveLaw, ClientLinksLaw, ClientMarksLaw}
 use Rattle.link_laws.proofs.Entries.{same_part_is, effects_own, list_behind}
 use Rattle.link_laws.proofs.Kept.{letter_out, right_moves}

@@ -8,7 +8,7 @@ use Rattle.part_spec.specs.Fit.{ledger_behind}
 use Rattle.part_spec.specs.Gives.{gives}
 use Rattle.part_spec.specs.Inputs.{marked_by}
 use Rattle.part_spec.specs.Marked.{Marked, letters_to}
-use Rattle.part_spec.specs.Merge.{Intake, Takes, Severed, IsEmptyTurn, IsTurnOf, AreTurnsFrom, letter_in, turn_behind}
+use Rattle.part_spec.specs.Merge.{Intake, Takes, Severed, IsEmptyTurn, IsTurnOf, AreTurnsFrom, letter_in, turn_behind, world_of}
 use Rattle.part_spec.specs.Share.{Share}
 use Rattle.part_spec.specs.Stamps.{Turn, list_of_turns, letters_of}
 use Rattle.part_spec.specs.World.{turns_in}
@@ -16,7 +16,7 @@ use Rattle.part_spec.proofs.Folds.{desks-fold}
 use Rattle.part_laws.specs.Turns.{Event, Comes, Severed as EndOfLink, made, list_from, letters_given}
 use Rattle.desk_laws.specs.Turns.{desk_event}
 use Rattle.desk_laws.proofs.DeskShare.{desk_gives, desk_shares}
-use Rattle.link_laws.specs.Moves.{world_of, waiting_between}
+use Rattle.link_laws.specs.Moves.{waiting_between}
 use Rattle.link_laws.specs.Laws.{DeskTurnsGive, DeskGivesLaw, DeskLinksLaw, DeskSharesLaw}
 use Rattle.link_laws.proofs.Links.{links}
 use Rattle.link_laws.proofs.Turns.{turns}

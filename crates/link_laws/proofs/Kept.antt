@@ -11,9 +11,9 @@ use Rattle.lload_names.specs.declared.names.PartName.TheVariants.{Desk, Client, 
 use Rattle.lload_spec.proofs.Growth.{left, right}
 use Rattle.link_laws.proofs.Entries.{AreOf, effects_own}
 use Rattle.lload_spec.specs.Settings.{Settings}
-use Rattle.part_spec.specs.Merge.{Intake, Takes, Severed, Move, Happens, Severs, moved, letter_in}
+use Rattle.part_spec.specs.Merge.{Intake, Takes, Severed, Move, Happens, Severs, PartMove, moved, behind_moves, letter_in}
 use Rattle.part_spec.specs.World.{World, Flight, behind, happens, takes, takes_from, turn_of, is_between, without_first}
-use Rattle.link_laws.specs.Moves.{PartMove, behind_moves, effects_in, has_entry, marks_move, marks_moves, ends_rightly, move_ends_rightly, end_rightly}
+use Rattle.link_laws.specs.Moves.{effects_in, has_entry, marks_move, marks_moves, ends_rightly, move_ends_rightly, end_rightly}
 
 -- the world without the letter that a part takes
 abbrev pub letter_out : PartName → PartName → World → World

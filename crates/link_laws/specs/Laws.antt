@@ -11,11 +11,11 @@ use Rattle.part_spec.specs.Linked.{IsBeginning, list_of}
 use Rattle.part_spec.specs.Marked.{entries, taken_from, letters_to}
 use Rattle.part_spec.specs.Gives.{gives}
 use Rattle.part_spec.specs.Marks.{has_right_marks}
-use Rattle.part_spec.specs.Merge.{Move, AreTurns, moved}
+use Rattle.part_spec.specs.Merge.{Move, PartMove, AreTurns, moved, world_of}
 use Rattle.part_spec.specs.Share.{Share}
 use Rattle.part_spec.specs.Stamps.{Turn, list_of_turns, letters_of, rise_above, stamps_given, stamps_taken, are_later}
 use Rattle.part_spec.specs.World.{World, empty_world, client_in, connection_in, journal_of, list_in, given_in, turns_in}
-use Rattle.link_laws.specs.Moves.{PartMove, world_of, end_rightly, marks_move, marks_moves, Links}
+use Rattle.link_laws.specs.Moves.{end_rightly, marks_move, marks_moves, Links}
 
 -- where each letter that was taken has a mark, what each part gave another is what this one took, and then what waits
 abbrev pub LinksLaw : Type 0

@@ -1,4 +1,4 @@
--- Worlds that moves of the parts make, one behind the other, and the letters between each two parts.
+-- Moves that mark the letters that they take, and the letters between each two parts in a world.
 use Rattle.std.specs.Prelude.{◌≡◌, Bool, true, false, ◌&&◌, List, [], ◌∷◌, ◌++◌, filter, find, map, Some, None}
 use Rattle.lload_names.specs.declared.inputs.Event.{Event}
 use Rattle.lload_names.specs.declared.inputs.Event.TheVariants as event
@@ -10,21 +10,8 @@ use Rattle.std.specs.List.{list_all}
 use Rattle.lload_spec.specs.Settings.{Settings}
 use Rattle.lload_spec.specs.Entries.{is_link_reason}
 use Rattle.part_spec.specs.Marked.{taken_from, letters_to}
-use Rattle.part_spec.specs.Merge.{Intake, Takes, Severed, Move, Happens, Severs, moved}
-use Rattle.part_spec.specs.World.{World, empty_world, turn_of, sever_of, is_between, list_in, given_in}
-
--- a move, and the part that makes it
-pub record PartMove : Type 0 where
-  pub part : PartName
-  pub move : Move
-
--- the world behind these moves, and the one that they make from the beginning
-abbrev pub behind_moves : Settings → World → List PartMove → World
-behind_moves s w [] = w
-behind_moves s w (m ∷ ms) = behind_moves s (moved s m.part m.move w) ms
-
-abbrev pub world_of : Settings → List PartMove → World
-world_of s ms = behind_moves s empty_world ms
+use Rattle.part_spec.specs.Merge.{Intake, Takes, Severed, Move, Happens, Severs, moved, PartMove}
+use Rattle.part_spec.specs.World.{World, turn_of, sever_of, is_between, list_in, given_in}
 
 -- what an intake gives in a world
 abbrev pub effects_in : Settings → World → PartName → Intake → Effects

@@ -156,6 +156,10 @@ wants_identity s m = s.proxies_authorization && is_request_of Bind m && not (pas
 abbrev pub asks_who : Settings → Operation → Bool
 asks_who s o = wants_identity s o.request
 
+-- whether a final answer to a Bind is kept back: a success, where its identity is asked for
+abbrev pub is_kept_back : Bool → List ℕ → Bool
+is_kept_back asks rest = asks && has_code success rest
+
 -- whether the final answer to a Bind is saslBindInProgress
 abbrev pub is_left_in_progress : Operation → Sending → Bool
 is_left_in_progress o s = passes (λ f. has_code bind_in_progress f.rest) (final_answer o s)
@@ -184,7 +188,7 @@ who_answer es = elim (who_id es) [ None ↦ None | Some id ↦ extended_under id
 abbrev pub closing_by : Settings → Operation → Final → Option (List ℕ)
 closing_by s o f =
     if is_of Bind o && is_none (result_code f.rest) then None
-    else if asks_who s o && has_code success f.rest then who_answer f.behind
+    else if is_kept_back (asks_who s o) f.rest then who_answer f.behind
     else Some f.rest
 
 -- the answer that settles the operation at a connection

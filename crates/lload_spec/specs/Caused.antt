@@ -171,11 +171,22 @@ has_cancel_cause s F o which = is_checked_so (check_of s F o) (answers_with whic
 abbrev pub is_canceled_with : Family → CancelAnswer → Operation → Bool
 is_canceled_with F which o = is_canceled_by_outs (answers_to F o) which o
 
+-- whether each refusal that an operation got has its cause, and each answer to a Cancel
+abbrev pub have_causes : (Refusal → Bool) → (Refusal → Bool) → (CancelAnswer → Bool) → (CancelAnswer → Bool) → Bool
+have_causes refused cause canceled cancel_cause =
+    list_all (λ which. implies (refused which) (cause which)) refusals
+    && list_all (λ which. implies (canceled which) (cancel_cause which)) (C13 ∷ cancel_answers)
+
 -- each operation that got an answer of the proxy's own has its cause
 abbrev pub has_causes : Settings → Family → Operation → Bool
 has_causes s F o =
-    list_all (λ which. implies (is_refused_with F which o) (has_cause s F o which)) refusals
-    && list_all (λ which. implies (is_canceled_with F which o) (has_cancel_cause s F o which)) (C13 ∷ cancel_answers)
+    have_causes (λ which. is_refused_with F which o) (has_cause s F o) (λ which. is_canceled_with F which o)
+    (has_cancel_cause s F o)
+
+-- whether a check ends the client so
+abbrev pub ends_for : EndWhy → Check → Bool
+ends_for why (Ends other) = same_why why other
+ends_for why _ = false
 
 -- whether the last entry is the notice behind an In that the first check ends for this reason
 abbrev pub is_ended_by_check : Settings → Family → ℕ → List Entry → EndWhy → Bool
@@ -185,22 +196,23 @@ is_ended_by_check s F c list why =
     passes (λ m. ends_for why (first_check s F c place m)) (in_message e.what)
     && (length behind == 1 && first_passes is_notice behind))
     list
-  where
-    ends_for : EndWhy → Check → Bool
-    ends_for why (Ends other) = same_why why other
-    ends_for why _ = false
 
 -- whether the last entry is the In of an Unbind whose identifier isn't 0
 abbrev pub is_unbound : List Entry → Bool
 is_unbound place = last_passes (λ e. passes (λ m. not (m.id == 0) && is_unbind m.rest) (in_message e.what)) place
 
--- the cause of a client's end: its check, its Unbind, or an event of its link
+-- whether a client may end so at a place, by what its check ends it for: for that, for its Unbind, or by an event of its
+-- link
+abbrev pub is_gone_cause : (EndWhy → Bool) → List Entry → EndWhy → Bool
+is_gone_cause ends place ZeroId = ends ZeroId
+is_gone_cause ends place IdInUse = ends IdInUse
+is_gone_cause ends place Unreadable = ends Unreadable
+is_gone_cause ends place Left = is_unbound place
+is_gone_cause ends place why = is_link_reason why
+
+-- the cause of a client's end
 abbrev pub has_gone_cause : Settings → Family → ℕ → List Entry → EndWhy → Bool
-has_gone_cause s F c place ZeroId = is_ended_by_check s F c place ZeroId
-has_gone_cause s F c place IdInUse = is_ended_by_check s F c place IdInUse
-has_gone_cause s F c place Unreadable = is_ended_by_check s F c place Unreadable
-has_gone_cause s F c place Left = is_unbound place
-has_gone_cause s F c place why = is_link_reason why
+has_gone_cause s F c place why = is_gone_cause (is_ended_by_check s F c place) place why
 
 -- each Gone has its cause
 abbrev pub is_gone_caused : Settings → Family → ℕ → List Entry → Entry → Bool

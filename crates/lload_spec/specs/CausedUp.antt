@@ -17,7 +17,7 @@ use Rattle.lload_spec.specs.Settings.{Settings, is_of_kind, place_at, second}
 use Rattle.lload_spec.specs.Journal.{Family}
 use Rattle.lload_spec.specs.Entries.{got_message, sent_message, expired_op, missed_op, down_why, given_id, is_gone, is_down, is_down_by, is_link_reason, is_linked, is_up, is_retired}
 use Rattle.lload_spec.specs.Operations.{Operation, operation, operations, is_of, is_final_for}
-use Rattle.lload_spec.specs.Answers.{Sending, is_some_sent_of, asks_who, sendings, of_operation, gives_id, answer_of, final_answer, closing_at, is_left_in_progress, who_id, is_open}
+use Rattle.lload_spec.specs.Answers.{Sending, is_some_sent_of, asks_who, is_kept_back, sendings, of_operation, gives_id, answer_of, final_answer, closing_at, is_left_in_progress, who_id, is_open}
 use Rattle.lload_spec.specs.Fifo.{is_pinned_to}
 use Rattle.lload_spec.specs.Pauses.{holds_at}
 use Rattle.lload_spec.specs.BadMessages.{OpenRequest, MessageFacts, is_bad}
@@ -122,7 +122,7 @@ open_request s o sent =
     record {
       id = sent.id;
       kind = kind_of o.request.rest;
-      kept = passes (λ f. asks_who s o && has_code success f.rest) (final_answer o sent);
+      kept = passes (λ f. is_kept_back (asks_who s o) f.rest) (final_answer o sent);
       who = elim (final_answer o sent) [ None ↦ None | Some f ↦ who_id f.behind ];
     }
 

@@ -124,6 +124,10 @@ lets_go_on _ = false
 abbrev pub is_pinned_by : Settings → ClientFacts → Message → Bool
 is_pinned_by s f m = is_request_of Bind m && f.in_exchange && lets_go_on (check s f m)
 
+-- whether the desk is asked for a request: its check lets it go on, and no exchange says where to
+abbrev pub asks_desk : Settings → ClientFacts → Message → Bool
+asks_desk s f m = lets_go_on (check s f m) && not (is_pinned_by s f m)
+
 -- The facts of a client at a place of its list.
 
 -- whether the client is between the steps of a SASL exchange: its last Bind was answered to it with saslBindInProgress

@@ -3,6 +3,7 @@ use Rattle.std.specs.Prelude.{ℕ, Bool, true, ◌==◌, ◌||◌, not, if◌the
 use Rattle.std.specs.List.{list_all}
 use Rattle.std.specs.Str.{bytes_eq}
 use Rattle.ldap_spec.specs.Tags.{success}
+use Rattle.ldap_spec.specs.Messages.{Message}
 use Rattle.ldap_spec.specs.Requests.{Request, BindRequest, Simple, request}
 use Rattle.ldap_spec.specs.Responses.{has_code, who_value}
 use Rattle.ldap_spec.specs.Controls.{Control, proxied_authorization, with_first}
@@ -11,7 +12,7 @@ use Rattle.lload_names.specs.declared.names.OpKind.TheVariants.{Bind}
 use Rattle.lload_spec.specs.Lists.{passes}
 use Rattle.lload_spec.specs.Settings.{Settings, is_privileged}
 use Rattle.lload_spec.specs.Journal.{Family}
-use Rattle.lload_spec.specs.Operations.{Operation, operation, is_of, last_bind, got_final}
+use Rattle.lload_spec.specs.Operations.{Operation, operation, is_request_of, last_bind, got_final}
 use Rattle.lload_spec.specs.Answers.{Sending, all_sendings, closing}
 
 -- the identity of a simple Bind: dn: and the name, where name and password both aren't empty (RFC 4513, 5.1)
@@ -49,9 +50,13 @@ abbrev pub proxied : Settings → List ℕ → List ℕ → List ℕ
 proxied s rest who =
     if not s.proxies_authorization || is_privileged s who then rest else with_first (identity_control who) rest
 
--- what an operation should carry: a Bind goes as it came, another with its client's identity at its In
+-- what a request carries upstream for a client of this identity: a Bind goes as it came
+abbrev pub carried_for : Settings → Message → List ℕ → List ℕ
+carried_for s m who = if is_request_of Bind m then m.rest else proxied s m.rest who
+
+-- what an operation should carry: its request, with its client's identity at its In
 abbrev pub carried : Settings → Family → Operation → List ℕ
-carried s F o = if is_of Bind o then o.request.rest else proxied s o.request.rest (identity s F o.name.client o.before)
+carried s F o = carried_for s o.request (identity s F o.name.client o.before)
 
 -- whether a Sent carries its own client's identity
 abbrev pub has_own_identity : Settings → Family → Sending → Bool

@@ -3,7 +3,7 @@
 use Rattle.std.specs.Prelude.{ℕ, suc, ◌+◌, ◌-◌, ◌^◌, Bool, true, false, ◌==◌, ◌&&◌, ◌||◌, not, min, nat_le, if◌then◌else◌, List, [], ◌∷◌, ◌++◌, length, filter, Option, Some, None, is_some, is_none}
 use Rattle.std.specs.List.{list_any}
 use Rattle.std.specs.Option.{option_and_then}
-use Rattle.ldap_spec.specs.Tags.{bind_in_progress, success}
+use Rattle.ldap_spec.specs.Tags.{bind_in_progress}
 use Rattle.ldap_spec.specs.Responses.{result_code, has_code}
 use Rattle.ldap_spec.specs.Requests.{request}
 use Rattle.ldap_spec.specs.Bodies.{abandon}
@@ -17,7 +17,7 @@ use Rattle.lload_spec.specs.Settings.{Settings, is_of_kind}
 use Rattle.lload_spec.specs.Journal.{Family, same_op}
 use Rattle.lload_spec.specs.Entries.{in_message, late_op, idle_op, paused_client, resumed_client, is_gone, is_own, is_expired, is_down, is_down_by, is_missed, is_sent}
 use Rattle.lload_spec.specs.Operations.{Operation, ending, is_by_cancel, operation, operation_in, operations, got_final, is_of, is_final_for, is_ended_by_client, outs}
-use Rattle.lload_spec.specs.Answers.{Sending, is_some_sent_of, sendings, sendings_of, of_operation, answer_of, asks_who, who_answer, is_open, is_abandoned_at, gives_id, reign}
+use Rattle.lload_spec.specs.Answers.{Sending, is_some_sent_of, sendings, sendings_of, of_operation, answer_of, asks_who, is_kept_back, who_answer, is_open, is_abandoned_at, gives_id, reign}
 use Rattle.lload_spec.specs.Fifo.{is_chosen_for}
 use Rattle.lload_spec.specs.CausedUp.{has_other_version}
 use Rattle.lload_spec.specs.Pauses.{Pausing, no_pause, pausing_behind}
@@ -43,7 +43,7 @@ count_of false = 0
 abbrev pub told_at_final : Settings → Operation → List ℕ → List Entry → ℕ
 told_at_final s o rest es =
     if is_of Bind o && is_none (result_code rest) then count_of (list_any (loses o) es)
-    else if asks_who s o && has_code success rest then count_of (is_some (who_answer es) || list_any (loses o) es)
+    else if is_kept_back (asks_who s o) rest then count_of (is_some (who_answer es) || list_any (loses o) es)
     else 1
 
 -- how many letters the client was given for an operation, by these entries behind its Sent: one for each answer in its

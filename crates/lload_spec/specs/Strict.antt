@@ -19,25 +19,29 @@ use Rattle.lload_names.specs.declared.names.What.TheVariants.{Chosen, Late, Got,
 use Rattle.lload_spec.specs.Lists.{passes, first_passes, last_passes, each_split, each_entry, some_entry, implies, agrees, where_there}
 use Rattle.lload_spec.specs.Settings.{Settings, is_of_kind, place_at}
 use Rattle.lload_spec.specs.Journal.{Family, same_op, same_answer}
-use Rattle.lload_spec.specs.Entries.{Named, in_message, sent_message, chosen, asked, chose, heard, out_message, expired_op, missed_op, late_op, gone_why, same_why, goes_to, is_choice_of, is_gone, is_down, is_notice, is_own, is_arrived, is_linked, is_up, is_retired, is_expired, is_of_client, is_of_desk, is_of_connection}
+use Rattle.lload_spec.specs.Entries.{Named, in_message, sent_message, chosen, asked, chose, heard, out_message, expired_op, missed_op, late_op, gone_why, same_why, goes_to, is_choice_of, is_gone, is_down, is_notice, is_own, is_arrived, is_linked, is_up, is_retired, is_expired}
 use Rattle.lload_spec.specs.Operations.{Operation, operation, operation_in, all_operations, live_operations, is_live_at, is_of, is_cancel_of, got_final}
 use Rattle.lload_spec.specs.Answers.{Sending, sendings, of_operation, all_sendings, closing, asks_who, is_open, is_last_sent}
 use Rattle.lload_spec.specs.Fifo.{is_refused_with, is_chosen_for, is_pinned_to}
 use Rattle.lload_spec.specs.Binding.{action, makes_wait, kind_wanted}
-use Rattle.lload_spec.specs.FirstCheck.{is_between_steps, lets_go_on}
+use Rattle.lload_spec.specs.FirstCheck.{ClientFacts, client_facts, lets_go_on, is_pinned_by, asks_desk}
 use Rattle.lload_spec.specs.Pauses.{is_waiting, waiting_clients}
 use Rattle.lload_spec.specs.Caused.{check_of}
 use Rattle.lload_spec.specs.Over.{is_over_at, from_sent}
 use Rattle.lload_spec.specs.News.{tells_up, tells_retired, tells_down, tells_stopped, same_news, is_heard}
 use Rattle.lload_spec.specs.Owed.{was_forwarded, is_open_at, is_idle_owed, is_late_owed, is_pause_owed, is_resume_owed, latency_at}
 
+-- what the first check of the operation asks of its client, at its In
+abbrev pub facts_at_in : Settings → Family → Operation → ClientFacts
+facts_at_in s F o = client_facts s F o.name.client o.before
+
 -- whether the operation goes on in an exchange, so that the desk isn't asked
-abbrev pub is_pinned : Operation → Bool
-is_pinned o = is_of Bind o && is_between_steps o.name.client o.before
+abbrev pub is_pinned : Settings → Family → Operation → Bool
+is_pinned s F o = is_pinned_by s (facts_at_in s F o) o.request
 
 -- whether the desk should be asked for the operation
 abbrev pub is_to_ask : Settings → Family → Operation → Bool
-is_to_ask s F o = lets_go_on (check_of s F o) && not (is_pinned o)
+is_to_ask s F o = asks_desk s (facts_at_in s F o) o.request
 
 -- whether an entry marks a choice for this operation, or asks for it
 abbrev pub is_choice_for : OpName → Entry → Bool
@@ -50,29 +54,31 @@ is_asked_for op e = passes (λ a. same_op op a.op) (asked e.what)
 abbrev pub is_chose_of : Named Answer → Entry → Bool
 is_chose_of c e = passes (λ d. same_op c.op d.op && same_answer c.value d.value) (chose e.what)
 
--- each Chosen is the first of its operation, which is the client's own, and the desk chose so
-abbrev pub is_chosen_once : Family → ℕ → List Entry → Entry → Bool
-is_chosen_once F c place e =
+-- each Chosen is the first of its operation, which is the client's own
+abbrev pub is_chosen_once : ℕ → List Entry → Entry → Bool
+is_chosen_once c place e =
     where_there
-    (λ x.
-    x.op.client == c && is_some (operation_in c place x.op) && not (list_any (is_choice_for x.op) place)
-    && list_any (is_chose_of x) F.desk)
+    (λ x. x.op.client == c && is_some (operation_in c place x.op) && not (list_any (is_choice_for x.op) place))
     (chosen e.what)
 
--- each Asked is the first of its operation, for which the desk should be asked
-abbrev pub is_asked_once : Settings → Family → List Entry → Entry → Bool
-is_asked_once s F place e =
-    where_there
-    (λ a.
-    passes (is_to_ask s F) (operation F a.op) && not (list_any (is_asked_for a.op) place))
-    (asked e.what)
+-- each Chosen is a choice of the desk
+abbrev pub is_chosen_by_desk : Family → Entry → Bool
+is_chosen_by_desk F e = where_there (λ x. list_any (is_chose_of x) F.desk) (chosen e.what)
+
+-- each Asked is the first of its operation
+abbrev pub is_asked_once : List Entry → Entry → Bool
+is_asked_once place e = where_there (λ a. not (list_any (is_asked_for a.op) place)) (asked e.what)
+
+-- each Asked is of an operation for which the desk should be asked
+abbrev pub is_ask_due : Settings → Family → Entry → Bool
+is_ask_due s F e = where_there (λ a. passes (is_to_ask s F) (operation F a.op)) (asked e.what)
 
 -- an operation that its first check lets go on goes to a connection of its kind: one that goes on in an exchange to
 -- where this is, another to where it was chosen
 abbrev pub is_rightly_at : Settings → Family → ℕ → Operation → Bool
 is_rightly_at s F u o =
     lets_go_on (check_of s F o) && is_of_kind s (kind_wanted o.request) u
-    && (if is_pinned o then is_pinned_to F o u else is_chosen_for F o u)
+    && (if is_pinned s F o then is_pinned_to F o u else is_chosen_for F o u)
 
 -- each Sent stands at a right connection
 abbrev pub is_sent_rightly : Settings → Family → Operation → Sending → Bool
@@ -91,10 +97,13 @@ is_missed_once place e = where_there (λ op. not (was_forwarded op place)) (miss
 abbrev pub tells_identity : Settings → Family → Operation → Bool
 tells_identity s F o = passes tells_who (closing s F o)
 
+-- whether the client got a success that was kept back
+abbrev pub got_kept_success : Settings → Operation → Bool
+got_kept_success s o = asks_who s o && got_final (has_code success) o
+
 -- a success that was kept back goes out only with a readable identity
 abbrev pub is_success_known : Settings → Family → Operation → Bool
-is_success_known s F o =
-    implies (asks_who s o && got_final (has_code success) o) (tells_identity s F o)
+is_success_known s F o = implies (got_kept_success s o) (tells_identity s F o)
 
 -- only a Bind whose success was kept back is refused because its identity isn't known
 abbrev pub is_unknown_rightly : Settings → Family → Operation → Bool
@@ -168,15 +177,13 @@ is_empty (e ∷ es) = false
 -- a client's list begins with Arrived, which stands nowhere else, and has late letters alone behind its end
 abbrev pub lives_as_client : List Entry → Entry → Bool
 lives_as_client place e =
-    is_of_client e.what && agrees (is_arrived e.what) (is_empty place)
-    && implies (list_any is_gone place) (may_follow_gone e.what)
+    agrees (is_arrived e.what) (is_empty place) && implies (list_any is_gone place) (may_follow_gone e.what)
 
 -- a connection's list begins with Linked, which stands nowhere else, has nothing sent before Up, and late letters alone
 -- behind its end
 abbrev pub lives_as_connection : List Entry → Entry → Bool
 lives_as_connection place e =
-    is_of_connection e.what && agrees (is_linked e.what) (is_empty place)
-    && implies (list_any is_down place) (may_follow_down e.what)
+    agrees (is_linked e.what) (is_empty place) && implies (list_any is_down place) (may_follow_down e.what)
     && implies (is_some (sent_message e.what)) (list_any (λ x. is_up x.what) place)
 
 -- whether a client ends for a reason that the notice is sent for
@@ -208,10 +215,13 @@ is_told s F place (Returned op u) =
     list_any (is_go_of op u) place && some_entry (is_late_choice op u) (F.client op.client)
 is_told s F place _ = false
 
--- each letter that the desk heard was told, and is heard once
+-- each letter that the desk heard was told
 abbrev pub is_heard_told : Settings → Family → List Entry → Entry → Bool
-is_heard_told s F place e =
-    where_there (λ letter. is_told s F place letter && not (is_heard (same_news letter) place)) (heard e.what)
+is_heard_told s F place e = where_there (is_told s F place) (heard e.what)
+
+-- and is heard once
+abbrev pub is_heard_once : List Entry → Entry → Bool
+is_heard_once place e = where_there (λ letter. not (is_heard (same_news letter) place)) (heard e.what)
 
 -- whether a letter of a connection's state comes in order: up, retired, down, and none that stands is passed over
 abbrev pub is_next_news : Family → List Entry → Letter → Bool
@@ -254,14 +264,15 @@ abbrev pub is_late_own : ℕ → List Entry → Entry → Bool
 is_late_own c place e = where_there (λ op. is_some (operation_in c place op)) (late_op e.what)
 
 -- whether an entry may stand where it does in a client's list
-abbrev pub has_place_in_client : Settings → Family → ℕ → List Entry → Entry → List Entry → Bool
-has_place_in_client s F c place e behind =
-    lives_as_client place e && is_chosen_once F c place e && is_in_unheld s c place e
-    && is_notice_placed e behind
+abbrev pub has_place_in_client : Settings → ℕ → List Entry → Entry → List Entry → Bool
+has_place_in_client s c place e behind =
+    lives_as_client place e && is_chosen_once c place e && is_in_unheld s c place e && is_notice_placed e behind
 
--- each client's list is one of a client's life, with choices and requests where they may stand
+-- each client's list is one of a client's life, with choices of the desk and requests where they may stand
 abbrev pub each_client_lives : Settings → Family → Bool
-each_client_lives s F = list_all (λ c. each_split (has_place_in_client s F c) (F.client c)) F.clients
+each_client_lives s F =
+    list_all
+    (λ c. each_split (has_place_in_client s c) (F.client c) && list_all (is_chosen_by_desk F) (F.client c)) F.clients
 
 -- whether an entry may stand where it does in a connection's list
 abbrev pub has_place_in_connection : Settings → Family → ℕ → List Entry → Entry → List Entry → Bool
@@ -273,10 +284,14 @@ has_place_in_connection s F u place e behind =
 abbrev pub each_connection_lives : Settings → Family → Bool
 each_connection_lives s F = list_all (λ u. each_split (has_place_in_connection s F u) (F.connection u)) F.connections
 
--- the desk's list has the desk's entries alone, asks once for each operation that goes on, and hears what was told
+-- whether an entry may stand where it does in the desk's list
+abbrev pub has_place_in_desk : List Entry → Entry → Bool
+has_place_in_desk place e = is_asked_once place e && is_heard_once place e
+
+-- the desk asks once for each operation that goes on, and hears once each letter that was told
 abbrev pub the_desk_lives : Settings → Family → Bool
 the_desk_lives s F =
-    each_entry (λ place e. is_of_desk e.what && is_asked_once s F place e && is_heard_told s F place e) F.desk
+    each_entry (λ place e. has_place_in_desk place e && is_ask_due s F e && is_heard_told s F place e) F.desk
 
 -- each Sent stands at a connection of the right kind, where it was chosen or where its exchange is
 abbrev pub each_sent_rightly : Settings → Family → Bool

@@ -9,10 +9,9 @@ use Rattle.lload_names.specs.declared.names.Letter.TheVariants.{Ended, IsUp as H
 use Rattle.lload_names.specs.declared.names.What.TheVariants.{Arrived, Asked, Chose, Chosen, Got, Heard, In, Linked, Out, Replanned, Sent, Up as IsUp}
 use Rattle.lload_names.specs.declared.inputs.Event.{Event}
 use Rattle.lload_names.specs.declared.inputs.Event.TheVariants.{Arrive, LinkUp, Message, Letter, Reload}
-use Rattle.part_spec.specs.Merge.{Happens}
+use Rattle.part_spec.specs.Merge.{Happens, PartMove}
 use Rattle.part_spec.specs.World.{PartTurn}
 use Rattle.part_examples.specs.Lines.{next_plan}
-use Rattle.part_examples.specs.Merges.{PartMove}
 use Rattle.spec_examples.specs.Entries.{client, up, desk, op, regular}
 use Rattle.spec_examples.specs.Octets.{delete_body, delete_done}
 

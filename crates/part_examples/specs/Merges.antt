@@ -1,15 +1,13 @@
--- Families of turns: those of a world that played a script, with the stamps that each part gives by itself; and moves of
--- the parts, one behind the other.
+-- Families of turns: those of a world that played a script, with the stamps that each part gives by itself.
 use Rattle.std.specs.Prelude.{ℕ, List, [], ◌∷◌, ◌++◌, length, flat_map, map, slice_get, Option, Some, None}
 use Rattle.lload_names.specs.declared.names.Entry.{Entry}
 use Rattle.lload_names.specs.declared.names.PartName.{PartName}
 use Rattle.lload_names.specs.declared.names.PartName.TheVariants.{Desk, Up as Connection}
-use Rattle.lload_spec.specs.Settings.{Settings}
 use Rattle.lload_spec.specs.Lists.{first, last}
 use Rattle.part_spec.specs.Marked.{Taken}
 use Rattle.part_spec.specs.Stamps.{Turn, next_stamp, stamps_given, stamps_taken}
-use Rattle.part_spec.specs.World.{World, PartTurn, empty_world}
-use Rattle.part_spec.specs.Merge.{Move, moved, turns_of}
+use Rattle.part_spec.specs.World.{World, PartTurn}
+use Rattle.part_spec.specs.Merge.{turns_of}
 
 -- the last stamp of a part among these turns; before its first turn that of the desk for a connection, else 0
 abbrev pub stamp_of : Option Turn → ℕ
@@ -51,15 +49,3 @@ family_of w p = turns_of p (all_stamped [] w.turns)
 -- the entries of turns, in their order
 abbrev pub journal_of : List PartTurn → List Entry
 journal_of ts = map (λ m. m.entry) (flat_map (λ t. t.turn.entries) ts)
-
--- the moves of the parts, one behind the other, and the world that they make
-pub record PartMove : Type 0 where
-  pub part : PartName
-  pub move : Move
-
-abbrev pub moves_on : Settings → World → List PartMove → World
-moves_on s w [] = w
-moves_on s w (m ∷ ms) = moves_on s (moved s m.part m.move w) ms
-
-abbrev pub world_of : Settings → List PartMove → World
-world_of s ms = moves_on s empty_world ms

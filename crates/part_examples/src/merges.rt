@@ -5,7 +5,7 @@ ghost use Rattle.std.specs.Prelude.{◌≡◌, ◌∷◌};
 ghost use Rattle.lload_names.specs.declared.names.PartName.TheVariants.{Desk, Client, Up as Connection};
 ghost use Rattle.lload_spec.specs.Journal.{of_part};
 ghost use Rattle.lload_spec.specs.Plain.{plain};
-ghost use Rattle.part_spec.specs.Merge.{merge};
+ghost use Rattle.part_spec.specs.Merge.{merge, world_of};
 ghost use Rattle.part_spec.specs.Play.{played};
 ghost use Rattle.part_spec.specs.World.{journal_of as journal_in};
 ghost use Rattle.spec_examples.specs.Configurations.{reloading};
@@ -14,7 +14,7 @@ ghost use Rattle.spec_examples.specs.Journals.{two_clients};
 ghost use Rattle.spec_examples.specs.Reloads.{taken_while_running};
 ghost use Rattle.part_examples.specs.FeatureScripts.{taken_while_running_script};
 ghost use Rattle.part_examples.specs.MergedFamilies.{anew_merged, anew_moves, anew_stamps, clients_merged, clients_moves, clients_stamps, delete_merged, delete_moves, delete_stamps, parts_1, parts_2, parts_anew, stamps_in};
-ghost use Rattle.part_examples.specs.Merges.{family_of, journal_of, world_of};
+ghost use Rattle.part_examples.specs.Merges.{family_of, journal_of};
 ghost use Rattle.part_examples.specs.Scripts.{delete_script, two_clients_script};
 
 /// One Delete there and back: of turns with equal stamps the desk's stands first, then clients', then connections'.

@@ -21,10 +21,10 @@ use Rattle.lload_spec.specs.Settings.{Settings, Action, Write, BindBackend, Bind
 use Rattle.lload_spec.specs.Journal.{same_op}
 use Rattle.lload_spec.specs.Entries.{makes_operation}
 use Rattle.lload_spec.specs.Operations.{is_request_of, is_final_for, abandons_id}
-use Rattle.lload_spec.specs.Identity.{proxied, identity_of}
+use Rattle.lload_spec.specs.Identity.{carried_for, identity_of}
 use Rattle.lload_spec.specs.Window.{Standing, binding_of}
 use Rattle.lload_spec.specs.Binding.{action, is_action, kind_wanted, makes_wait, want_by}
-use Rattle.lload_spec.specs.FirstCheck.{Check, ClientFacts, live_request, check, is_pinned_by, lets_go_on}
+use Rattle.lload_spec.specs.FirstCheck.{Check, ClientFacts, live_request, check, is_pinned_by, asks_desk}
 use Rattle.lload_spec.specs.Pauses.{Pausing, no_pause, stalling, forwarding}
 use Rattle.part_spec.specs.Marked.{Marked, Taken}
 
@@ -56,8 +56,8 @@ pub record AskedFor : Type 0 where
   pub kind : ConnKind
 
 -- the client's number, the moment of its last entry, whether it arrived and is gone, how many operations came, the live
--- ones by rising number, what the desk was asked for and didn't choose yet, its identity, whether it is between the steps of a SASL exchange, what it holds, what binds
--- it, and which connections it pauses
+-- ones by rising number, what the desk was asked for and didn't choose yet, its identity, whether it is between the
+-- steps of a SASL exchange, what it holds, what binds it, and which connections it pauses
 pub record ClientState : Type 0 where
   pub number : ℕ
   pub moment : ℕ
@@ -170,9 +170,9 @@ regular_connections p =
 abbrev pub held_connection : ClientState → Option ℕ
 held_connection p = elim p.hold [ None ↦ None | Some h ↦ Some h.connection ]
 
--- what goes upstream of a request: a Bind as it came, another with the client's identity
+-- a request as it goes upstream, under the client's identifier
 abbrev pub carried : Settings → ClientState → Message → Message
-carried s p m = elim (is_request_of Bind m) [ true ↦ m | false ↦ record m { rest = proxied s m.rest p.identity } ]
+carried s p m = record m { rest = carried_for s m p.identity }
 
 -- the row of a request that makes an operation
 abbrev pub new_row : Settings → ClientState → Message → ClientRow
@@ -297,9 +297,9 @@ client_behind s at mark p _ = p
 abbrev pub next_name : ClientState → OpName
 next_name p = record { client = p.number; k = suc p.count }
 
--- whether the desk is asked for a request: its check lets it go on, and no exchange says where to
+-- whether the desk is asked for a request
 abbrev pub is_asked_for : Settings → ClientState → Message → Bool
-is_asked_for s p m = lets_go_on (check_at s p m) && not (is_pinned s p m)
+is_asked_for s p m = asks_desk s (facts_of p) m
 
 -- what the desk was asked for and didn't choose yet
 abbrev pub asked_behind : Settings → ClientState → What → List AskedFor

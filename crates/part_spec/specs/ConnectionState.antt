@@ -22,7 +22,9 @@ use Rattle.lload_spec.specs.Lists.{passes}
 use Rattle.lload_spec.specs.Settings.{Settings, is_of_kind, is_kind}
 use Rattle.lload_spec.specs.Journal.{same_op}
 use Rattle.lload_spec.specs.Identifiers.{Ids, no_ids, with_sent_id, with_own_id, with_freed}
+use Rattle.lload_spec.specs.Answers.{is_kept_back}
 use Rattle.lload_spec.specs.BadMessages.{OpenRequest, MessageFacts}
+use Rattle.lload_spec.specs.BadMessages as bad
 use Rattle.lload_spec.specs.Pauses.{waiting_behind, is_waiting}
 use Rattle.lload_spec.specs.OneEach.{begins_with_bind, is_own_bind}
 use Rattle.part_spec.specs.Marked.{Marked, Taken}
@@ -116,13 +118,18 @@ row_named p op = find (λ r. same_op op r.op) p.rows
 abbrev pub is_kept : UpRow → Bool
 is_kept r = is_some r.kept
 
+-- a row as a message finds it
+abbrev pub open_request : UpRow → OpenRequest
+open_request r =
+    record { id = r.id; kind = Some r.kind; kept = is_kept r; who = elim r.kept [ None ↦ None | Some k ↦ k.who ] }
+
 -- whether a message is under a row's identifier, and answers it
 abbrev pub is_under : ℕ → UpRow → Bool
-is_under id r = r.id == id && not (is_kept r)
+is_under id r = bad.is_under id (open_request r)
 
 -- whether a message is under the identifier of a row's Who Am I
 abbrev pub is_under_who : ℕ → UpRow → Bool
-is_under_who id r = passes (λ k. passes (λ who. who == id) k.who) r.kept
+is_under_who id r = bad.is_under_who id (open_request r)
 
 -- whether a message is under the identifier of the own Bind that waits
 abbrev pub is_under_own : ConnectionState → ℕ → Bool
@@ -130,7 +137,7 @@ is_under_own p id = passes (λ own. own.id == id) p.own_bind
 
 -- whether the answer to a Bind is kept back: a success whose identity is asked for
 abbrev pub keeps_back : UpRow → List ℕ → Bool
-keeps_back r rest = r.ask_who && has_code 0 rest
+keeps_back r rest = is_kept_back r.ask_who rest
 
 -- The fold: the state behind an entry, from the state before it.
 
@@ -280,13 +287,7 @@ step_connections s p (m ∷ ms) = step_connections s (step_connection s p m) ms
 abbrev pub connection_of : Settings → ℕ → List Marked → ConnectionState
 connection_of s u list = step_connections s (empty_connection s u) list
 
--- What a message meets.
-
--- a row as a message finds it
-abbrev pub open_request : UpRow → OpenRequest
-open_request r =
-    record { id = r.id; kind = Some r.kind; kept = is_kept r; who = elim r.kept [ None ↦ None | Some k ↦ k.who ] }
-
+-- what a message meets
 abbrev pub message_facts : ConnectionState → MessageFacts
 message_facts p =
     record {

@@ -126,6 +126,19 @@ abbrev pub moved : Settings → PartName → Move → World → World
 moved s p (Happens event) w = happens s p event w
 moved s p (Severs now why) w = severs s p now why w
 
+-- a move, and the part that makes it
+pub record PartMove : Type 0 where
+  pub part : PartName
+  pub move : Move
+
+-- the world behind these moves, and the one that they make from the beginning
+abbrev pub behind_moves : Settings → World → List PartMove → World
+behind_moves s w [] = w
+behind_moves s w (m ∷ ms) = behind_moves s (moved s m.part m.move w) ms
+
+abbrev pub world_of : Settings → List PartMove → World
+world_of s ms = behind_moves s empty_world ms
+
 -- a turn is what a move of its part makes in this world
 pub record IsMoveOf (s : Settings) (w : World) (t : PartTurn) : Type 0 where
   pub move : Move

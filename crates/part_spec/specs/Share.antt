@@ -10,7 +10,7 @@ use Rattle.lload_names.specs.declared.names.Entry.{Entry}
 use Rattle.lload_names.specs.declared.names.OpName.{OpName}
 use Rattle.lload_names.specs.declared.names.Answer.TheVariants.{Busy, Unavailable}
 use Rattle.lload_names.specs.declared.names.EndWhy.{EndWhy}
-use Rattle.lload_names.specs.declared.names.EndWhy.TheVariants.{Left, Bad, ZeroId, IdInUse, Unreadable, OwnBind, TimedOut, Unfinished, Drained}
+use Rattle.lload_names.specs.declared.names.EndWhy.TheVariants.{Bad, OwnBind, TimedOut, Unfinished, Drained}
 use Rattle.lload_names.specs.declared.names.Refusal.{Refusal}
 use Rattle.lload_names.specs.declared.names.Refusal.TheVariants.{C1, C3, C4, C5, C9}
 use Rattle.lload_names.specs.declared.names.CancelAnswer.{CancelAnswer}
@@ -23,18 +23,17 @@ use Rattle.lload_names.specs.declared.names.Letter.TheVariants.{Forward, Reply, 
 use Rattle.lload_spec.specs.Lists.{passes, first_passes, last_passes, each_entry, each_split, some_split, implies}
 use Rattle.lload_spec.specs.Settings.{Settings, is_kind}
 use Rattle.lload_spec.specs.Journal.{family, same_op}
-use Rattle.lload_spec.specs.Entries.{in_message, sent_message, own_message, got_message, chosen, asked, heard, expired_op, idle_op, gone_why, down_why, is_up, is_retired, is_down_by, is_link_reason, is_notice, is_own, is_expired, same_why, is_of_desk}
-use Rattle.lload_spec.specs.Operations.{Operation, operations, operation_in, is_final_for, outs}
+use Rattle.lload_spec.specs.Entries.{in_message, sent_message, own_message, got_message, expired_op, idle_op, gone_why, down_why, is_up, is_retired, is_down_by, is_link_reason, is_notice, is_own, is_expired, is_of_client, is_of_desk, is_of_connection}
+use Rattle.lload_spec.specs.Operations.{Operation, operations, outs}
 use Rattle.lload_spec.specs.Answers.{sendings, asks_who}
-use Rattle.lload_spec.specs.Fifo.{refusals, cancel_answers, allowed, is_refused_by_outs, is_canceled_by_outs, is_ended_once, has_own_outs}
+use Rattle.lload_spec.specs.Fifo.{allowed, is_refused_by_outs, is_canceled_by_outs, is_ended_once, has_own_outs}
 use Rattle.lload_spec.specs.Right.{each_chosen_rightly}
 use Rattle.lload_spec.specs.Identifiers.{has_right_id}
 use Rattle.lload_spec.specs.OneEach.{is_bind_due, is_own_bind, is_named_once}
-use Rattle.lload_spec.specs.FirstCheck.{Check, Ends}
-use Rattle.lload_spec.specs.Caused.{is_followed_up, refuses_with, answers_with, is_checked_so, is_canceled_by, same_refusal, is_choice_told, is_refused_by_choice, is_unbound, is_late_caused, is_stall_caused, is_later}
+use Rattle.lload_spec.specs.FirstCheck.{Check}
+use Rattle.lload_spec.specs.Caused.{is_followed_up, have_causes, refuses_with, answers_with, is_checked_so, is_canceled_by, same_refusal, is_choice_told, is_refused_by_choice, ends_for, is_gone_cause, is_late_caused, is_stall_caused, is_later}
 use Rattle.lload_spec.specs.CausedUp.{is_missed_caused, exactly_behind, is_up_due, is_retirement_due, is_refused_own_bind, is_own_bind_due}
-use Rattle.lload_spec.specs.News.{same_news, is_heard}
-use Rattle.lload_spec.specs.Strict.{is_choice_for, is_asked_for, is_in_unheld, is_notice_placed, lives_as_client, lives_as_connection, may_pass}
+use Rattle.lload_spec.specs.Strict.{has_place_in_client, has_place_in_desk, lives_as_connection, may_pass, got_kept_success}
 use Rattle.lload_spec.specs.BadMessages.{is_bad}
 use Rattle.part_spec.specs.Marked.{Marked, Taken, entries}
 use Rattle.part_spec.specs.Marks.{has_right_marks}
@@ -114,19 +113,13 @@ has_cancel_cause s list o which = is_checked_so (check_of s list o) (answers_wit
 -- each operation that got an answer of the proxy's own has its cause
 abbrev pub has_causes : Settings → List Marked → Operation → Bool
 has_causes s list o =
-    list_all (λ which. implies (is_refused_with list which o) (has_cause s list o which)) refusals
-    && list_all (λ which. implies (is_canceled_with list which o) (has_cancel_cause s list o which))
-    (C13 ∷ cancel_answers)
+    have_causes (λ which. is_refused_with list which o) (has_cause s list o)
+    (λ which. is_canceled_with list which o) (has_cancel_cause s list o)
 
 -- each In has directly behind it what its first check wants
 abbrev pub is_checked : Settings → ClientState → Marked → List Marked → Bool
 is_checked s p m behind =
     elim (in_message m.entry.what) [ None ↦ true | Some x ↦ is_followed_up x (entries behind) (check_at s p x) ]
-
--- whether a check ends the client so
-abbrev pub ends_for : EndWhy → Check → Bool
-ends_for why (Ends other) = same_why why other
-ends_for why _ = false
 
 -- whether the last two entries are an In that the first check ends for this reason, and the notice
 abbrev pub is_ended_by_check : Settings → ℕ → List Marked → EndWhy → Bool
@@ -137,24 +130,12 @@ is_ended_by_check s c list why =
     && (length behind == 1 && first_passes is_notice (entries behind)))
     list
 
--- the cause of a client's end: its check, its Unbind, or an event of its link
+-- the cause of a client's end
 abbrev pub has_gone_cause : Settings → ℕ → List Marked → EndWhy → Bool
-has_gone_cause s c before ZeroId = is_ended_by_check s c before ZeroId
-has_gone_cause s c before IdInUse = is_ended_by_check s c before IdInUse
-has_gone_cause s c before Unreadable = is_ended_by_check s c before Unreadable
-has_gone_cause s c before Left = is_unbound (entries before)
-has_gone_cause s c before why = is_link_reason why
+has_gone_cause s c before why = is_gone_cause (is_ended_by_check s c before) (entries before) why
 
 abbrev pub is_gone_caused : Settings → ℕ → List Marked → Marked → Bool
 is_gone_caused s c before m = elim (gone_why m.entry.what) [ None ↦ true | Some why ↦ has_gone_cause s c before why ]
-
--- each Chosen is the first of its operation, which is the client's own
-abbrev pub is_chosen_once : ℕ → List Entry → Entry → Bool
-is_chosen_once c place e =
-    elim (chosen e.what) [
-      | None ↦ true
-      | Some x ↦ x.op.client == c && is_some (operation_in c place x.op) && not (list_any (is_choice_for x.op) place)
-    ]
 
 -- whether a letter is an answer with a readable identity
 abbrev pub tells_identity : OpName → Letter → Bool
@@ -164,8 +145,7 @@ tells_identity op _ = false
 -- a success that was kept back goes out only with a readable identity
 abbrev pub is_success_known : Settings → List Marked → Operation → Bool
 is_success_known s list o =
-    implies (asks_who s o && list_any (λ r. is_final_for o.request r && has_code 0 r) (outs o))
-    (list_any (has_letter (tells_identity o.name)) list)
+    implies (got_kept_success s o) (list_any (has_letter (tells_identity o.name)) list)
 
 -- each operation's Outs are a beginning of the answers that were taken, or such a beginning and one refusal
 abbrev pub each_answered : ℕ → List Marked → Bool
@@ -206,14 +186,10 @@ each_late_caused c list = each_entry (is_late_caused c) (entries list)
 abbrev pub each_stall_caused : ℕ → List Marked → Bool
 each_stall_caused c list = each_entry (is_stall_caused c) (entries list)
 
--- whether an entry may stand where it does in a client's list
-abbrev pub has_place_in_client : Settings → ℕ → List Entry → Entry → List Entry → Bool
-has_place_in_client s c place e behind =
-    lives_as_client place e && is_chosen_once c place e && is_in_unheld s c place e && is_notice_placed e behind
-
--- the list is one of a client's life, with choices and requests where they may stand
+-- the list has a client's entries alone, and is one of a client's life, with choices and requests where they may stand
 abbrev pub lives_as_a_client : Settings → ℕ → List Marked → Bool
-lives_as_a_client s c list = each_split (has_place_in_client s c) (entries list)
+lives_as_a_client s c list =
+    each_split (λ place e behind. is_of_client e.what && has_place_in_client s c place e behind) (entries list)
 
 -- each success that was kept back went out with a readable identity
 abbrev pub each_success_known : Settings → ℕ → List Marked → Bool
@@ -388,9 +364,10 @@ each_bad_told s u list = each_by_state s u (λ p place m behind. is_bad_told p m
 abbrev pub each_down_caused : Settings → ℕ → List Marked → Bool
 each_down_caused s u list = each_by_state s u (λ p place m behind. is_down_caused s p place m) list
 
--- the list is one of a connection's life
+-- the list has a connection's entries alone, and is one of a connection's life
 abbrev pub lives_as_a_connection : List Marked → Bool
-lives_as_a_connection list = each_entry lives_as_connection (entries list)
+lives_as_a_connection list =
+    each_entry (λ place e. is_of_connection e.what && lives_as_connection place e) (entries list)
 
 -- a connection's share: of its identifiers, holders and own messages, of the causes, and of what is promised beside
 abbrev pub keeps_connection_share : Settings → ℕ → List Marked → Bool
@@ -403,25 +380,10 @@ keeps_connection_share s u list =
 
 -- The desk.
 
--- each Asked is the first of its operation
-abbrev pub is_asked_once : List Entry → Entry → Bool
-is_asked_once place e = elim (asked e.what) [ None ↦ true | Some a ↦ not (list_any (is_asked_for a.op) place) ]
-
--- each letter is heard once
-abbrev pub is_heard_once : List Entry → Entry → Bool
-is_heard_once place e =
-    elim (heard e.what) [
-      | None ↦ true
-      | Some letter ↦ not (is_heard (same_news letter) place)
-    ]
-
--- whether an entry may stand where it does in the desk's list
-abbrev pub has_place_in_desk : List Entry → Entry → Bool
-has_place_in_desk place e = is_of_desk e.what && is_asked_once place e && is_heard_once place e
-
--- the list is one of the desk's life: it is asked once for each operation, and hears each letter once
+-- the list has the desk's entries alone, and is one of its life: it is asked once for each operation, and hears each
+-- letter once
 abbrev pub lives_as_a_desk : List Marked → Bool
-lives_as_a_desk list = each_entry has_place_in_desk (entries list)
+lives_as_a_desk list = each_entry (λ place e. is_of_desk e.what && has_place_in_desk place e) (entries list)
 
 -- each choice is the right one
 abbrev pub each_choice_right : Settings → List Marked → Bool

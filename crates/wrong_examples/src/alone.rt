@@ -113,13 +113,12 @@ pub fn features_clauses_refuse_alone()
     ensures order_kept { IsTrue (refuses_alone (each_choice_right in_turn_anew) (all_clauses in_turn_anew) order_kept) }
 {}
 
-/// Refused by one clause of the six promises alone: by what is said of a Bind that expires, and of the entries that each sort of part
-/// has, which is said beside them of the life of a part, too.
+/// Refused alone by what is said of a Bind that expires, and of the entries that each sort of part has.
 pub fn later_causes_clauses_refuse_alone()
     ensures expired_and_left { IsTrue (refuses_alone each_bind_expiry_told (all_clauses impatient) expired_and_left) }
-    ensures asked_at_client { IsTrue (refuses_alone each_entry_placed (good_clauses plain) asked_at_client) }
-    ensures arrived_at_connection { IsTrue (refuses_alone each_entry_placed (good_clauses plain) arrived_at_connection) }
-    ensures retired_at_desk { IsTrue (refuses_alone each_entry_placed (good_clauses plain) retired_at_desk) }
+    ensures asked_at_client { IsTrue (refuses_alone each_entry_placed (all_clauses plain) asked_at_client) }
+    ensures arrived_at_connection { IsTrue (refuses_alone each_entry_placed (all_clauses plain) arrived_at_connection) }
+    ensures retired_at_desk { IsTrue (refuses_alone each_entry_placed (all_clauses plain) retired_at_desk) }
 {}
 
 /// Refused by one clause of what is said of answers alone, and by what is said of the life of a part.
