@@ -13,9 +13,8 @@ use Rattle.lload_spec.specs.Settings.{Settings, Action, Reject}
 use Rattle.lload_spec.specs.Entries.{makes_operation}
 use Rattle.lload_spec.specs.Operations.{is_request_of}
 use Rattle.part_spec.specs.ClientState.{ClientState, new_row, is_present, is_holding, is_pinned}
-use Rattle.part_spec.specs.Merge.{Move, Happens, moved}
+use Rattle.part_spec.specs.Merge.{Move, Happens, PartMove, moved}
 use Rattle.part_spec.specs.World.{World, client_in}
-use Rattle.link_laws.specs.Moves.{PartMove}
 
 -- the request of each operation as it goes upstream under the client's identifier, its action, and whether it is a Bind
 -- that goes on in an exchange

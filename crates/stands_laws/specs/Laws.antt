@@ -2,7 +2,7 @@
 use Rattle.std.specs.Prelude.{◌≡◌, ℕ, false, ◌==◌, List, map}
 use Rattle.lload_spec.specs.Settings.{Settings}
 use Rattle.part_spec.specs.World.{World, empty_world}
-use Rattle.link_laws.specs.Moves.{PartMove}
+use Rattle.part_spec.specs.Merge.{PartMove}
 use Rattle.move_laws.specs.World as machine
 use Rattle.move_laws.specs.World.{Kinds}
 use Rattle.move_laws.specs.Moves.{moves, empty}
