@@ -1,1 +1,3 @@
 mod OneList
+mod Places
+mod Headline
