@@ -4,3 +4,8 @@ pub mod Rules
 pub mod BindShare
 pub mod BadMessages
 pub mod BindGiving
+pub mod Sents
+pub mod Gots
+pub mod Told
+pub mod Tells
+pub mod BindSays

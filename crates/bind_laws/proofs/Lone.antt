@@ -163,7 +163,7 @@ module _ (s : Settings) (u : ℕ) (before : List Marked) (l : ConnectionLedger) 
   gone_step mark what.Linked k d = h.gone d
   gone_step mark _ k d = h.gone d
 
-  stands_step : (mark : Option Taken) (w : What) → Permit s before l (marked mark w) ms → marks_a_bind mark ≡ true → BindStands (step_connection s l.state (marked mark w))
+  pub stands_step : (mark : Option Taken) (w : What) → Permit s before l (marked mark w) ms → marks_a_bind mark ≡ true → BindStands (step_connection s l.state (marked mark w))
   stands_step mark w k b =
       record {
         kind = kind_step s (record { part = part; at = at; what = w }) mark l.state w ∙ h.kind;

@@ -8,6 +8,7 @@ pub mod MorePieces
 pub mod Makes
 pub mod Through
 pub mod Rules
+pub mod Closings
 pub mod Giving
 pub mod Rows
 pub mod Regular
