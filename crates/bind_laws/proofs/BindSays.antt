@@ -85,11 +85,11 @@ tells_through s F u begins (m ∷ ms) before l g h k b told t =
     subst (λ x. Tells s F u (entries x) (behind (step_connection_ledger s) (step_connection_ledger s l m) ms).state []) (append_assoc before (m ∷ []) ms) (tells_through s F u begins ms (before ++ m ∷ []) (step_connection_ledger s l m) (up_stands_more s u before l m ms g k.0) (stands_step s u before l ms g h m.entry.part m.entry.at m.mark m.entry.what k.0 (left (marks_a_bind m.mark) _ b)) k.1 (right (marks_a_bind m.mark) _ b) (right (marks_rightly s F m.mark) _ told) (subst (λ place. Tells s F u place (step_connection s l.state m) (entries ms)) (sym (push_entry before m)) next))
 
 -- What is kept behind each turn.
-record BindTells (s : Settings) (F : Family) (u : ℕ) (before : List Marked) (l : ConnectionLedger) : Type 0 where
+pub record BindTells (s : Settings) (F : Family) (u : ℕ) (before : List Marked) (l : ConnectionLedger) : Type 0 where
   pub keeps : BindKeeps s u before l
   pub tells : are_told_rightly s F before ≡ true → Tells s F u (entries before) l.state []
 
-tells_turn : (s : Settings) (F : Family) (u : ℕ) → begins_with_bind s u ≡ false → (before : List Marked) (l : ConnectionLedger) (at : ℕ) (mark : Option Taken) (ws : List What) → BindTells s F u before l → marks_a_bind mark ≡ true → Makes s before l at mark ws → BindTells s F u (before ++ turn_of l.state.number at mark ws) (behind (step_connection_ledger s) l (turn_of l.state.number at mark ws))
+pub tells_turn : (s : Settings) (F : Family) (u : ℕ) → begins_with_bind s u ≡ false → (before : List Marked) (l : ConnectionLedger) (at : ℕ) (mark : Option Taken) (ws : List What) → BindTells s F u before l → marks_a_bind mark ≡ true → Makes s before l at mark ws → BindTells s F u (before ++ turn_of l.state.number at mark ws) (behind (step_connection_ledger s) l (turn_of l.state.number at mark ws))
 tells_turn s F u begins before l at mark ws h n k =
     let turn : List Marked = turn_of l.state.number at mark ws in
     record {
@@ -100,7 +100,7 @@ tells_turn s F u begins before l at mark ws h n k =
     parts : are_told_rightly s F (before ++ turn_of l.state.number at mark ws) ≡ true → (are_told_rightly s F before && are_told_rightly s F (turn_of l.state.number at mark ws)) ≡ true
     parts told = sym (list_all-append (λ m. where_there (λ t. is_told_rightly s F t.letter) m.mark) before (turn_of l.state.number at mark ws)) ∙ told
 
-nothing_told : (s : Settings) (F : Family) (u : ℕ) → is_of_kind s BindKind u ≡ true → BindTells s F u [] (empty_connection_ledger s u)
+pub nothing_told : (s : Settings) (F : Family) (u : ℕ) → is_of_kind s BindKind u ≡ true → BindTells s F u [] (empty_connection_ledger s u)
 nothing_told s F u place = record { keeps = nothing_kept s u place; tells = λ told. record { ids = refl; told = λ j. j; sents = λ d f. record { done = []; live = []; split = refl; closed = refl; are = tt } } }
 
 -- the state behind the list

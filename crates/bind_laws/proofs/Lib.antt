@@ -9,3 +9,4 @@ pub mod Gots
 pub mod Told
 pub mod Tells
 pub mod BindSays
+pub mod BindOpens

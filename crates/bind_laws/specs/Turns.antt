@@ -1,9 +1,9 @@
 -- What is proved of the lists that the turns of a bind connection make.
-use Rattle.std.specs.Prelude.{◌≡◌, ℕ, true, List, IsTrue, Bool, ◌&&◌}
+use Rattle.std.specs.Prelude.{◌≡◌, ℕ, true, List, IsTrue, Bool, ◌&&◌, map}
 use Rattle.lload_names.specs.declared.names.ConnKind.TheVariants.{Bind as BindKind}
 use Rattle.lload_names.specs.declared.names.PartName.TheVariants.{Up as Connection}
 use Rattle.lload_spec.specs.Settings.{Settings, is_of_kind}
-use Rattle.part_spec.specs.ConnectionState.{empty_connection, step_connection}
+use Rattle.part_spec.specs.ConnectionState.{empty_connection, step_connection, connection_of, open_request}
 use Rattle.part_spec.specs.Fit.{is_all_fit, fit_beginning}
 use Rattle.part_spec.specs.Gives.{gives}
 use Rattle.part_spec.specs.Share.{Share}
@@ -17,8 +17,9 @@ use Rattle.lload_spec.specs.Lists.{passes, agrees, where_there}
 use Rattle.lload_spec.specs.Journal.{Family}
 use Rattle.lload_spec.specs.Operations.{operation, is_of}
 use Rattle.lload_spec.specs.Answers.{asks_who}
-use Rattle.part_spec.specs.Marked.{Marked}
+use Rattle.part_spec.specs.Marked.{Marked, entries}
 use Rattle.part_spec.specs.Says.{ConnectionSays}
+use Rattle.lload_spec.specs.CausedUp.{open_requests}
 
 -- a bind connection's list keeps its share
 abbrev pub BindShares : Type 0
@@ -52,3 +53,11 @@ BindSays =
     (s : Settings) (u : ℕ) → is_of_kind s BindKind u ≡ true → (F : Family) (xs : List Event)
     → IsTrue (are_told_rightly s F (fit_beginning s (Connection u) (connection_list s u xs)))
     → ConnectionSays s F u (fit_beginning s (Connection u) (connection_list s u xs))
+
+-- and the requests that a message meets as open are those that the list says are open
+abbrev pub BindOpens : Type 0
+BindOpens =
+    (s : Settings) (u : ℕ) → is_of_kind s BindKind u ≡ true → (F : Family) (xs : List Event)
+    → IsTrue (are_told_rightly s F (fit_beginning s (Connection u) (connection_list s u xs)))
+    → map open_request (connection_of s u (fit_beginning s (Connection u) (connection_list s u xs))).rows
+    ≡ open_requests s F u (entries (fit_beginning s (Connection u) (connection_list s u xs)))

@@ -12,13 +12,19 @@ use Rattle.lload_names.specs.declared.names.OpKind.TheVariants.{Bind}
 use Rattle.lload_spec.specs.Lists.{passes}
 use Rattle.lload_spec.specs.Settings.{Settings}
 use Rattle.lload_spec.specs.Journal.{Family}
-use Rattle.lload_spec.specs.Entries.{got_message, own_message}
+use Rattle.lload_spec.specs.Entries.{got_message, own_message, Named, sent_message, is_down, is_expired}
 use Rattle.lload_spec.specs.Operations.{Operation, operation, is_of, is_final_for}
-use Rattle.lload_spec.specs.Answers.{Sending, Final, gives_id, answer_of, final_under, final_answer, extended_rest, extended_under, who_id, who_answer, closing_by, closing_at, asks_who, is_kept_back}
+use Rattle.lload_spec.specs.Answers.{Sending, Final, gives_id, answer_of, final_under, final_answer, extended_rest, extended_under, who_id, who_answer, closing_by, closing_at, asks_who, is_kept_back, sendings_from, sending_made, is_open, is_abandoned_at}
 use Rattle.lload_spec.specs.Identifiers.{Ids, freed_id, frees, ids_behind, ids_from, ids_at, is_given_up, no_ids}
 use Rattle.lload_laws.specs.ConnectionGrowth.{later_sending}
 use Rattle.lload_spec.proofs.Growth.{left, right, both}
 use Rattle.std.proofs.lemmas.List.{append-nil}
+use Rattle.lload_spec.specs.BadMessages.{OpenRequest}
+use Rattle.lload_spec.specs.CausedUp.{open_request}
+use Rattle.std.proofs.lemmas.List.Folds.{list_all-append}
+use Rattle.part_laws.proofs.ListLaws.{any_before, any_behind, or_left, or_right}
+use Rattle.lload_laws.proofs.ListLaws.{any_imply}
+use Rattle.connection_laws.proofs.Apart.{or_false_right}
 
 -- a final answer stays, with the entry behind it
 abbrev later_final : Entry → Final → Final
@@ -130,3 +136,56 @@ ids_push s F u place e = from no_ids [] place
     from : (i : Ids) (before es : List Entry) → ids_from s F u i before (es ++ e ∷ []) ≡ ids_behind s F u (before ++ es) e (ids_from s F u i before es)
     from i before [] = ap (λ b. ids_behind s F u b e i) (sym (append-nil before))
     from i before (x ∷ es) = from (ids_behind s F u before x i) (before ++ x ∷ []) es ∙ ap (λ b. ids_behind s F u b e (ids_from s F u (ids_behind s F u before x i) (before ++ x ∷ []) es)) (append_assoc before (x ∷ []) es)
+
+-- What stands behind a Sent stands in the list.
+pub none_behind : (u : ℕ) (t : Entry → Bool) (before es : List Entry) → list_any t es ≡ false → list_all (λ sent. not (list_any t sent.behind)) (sendings_from u before es) ≡ true
+none_behind u t before [] h = refl
+none_behind u t before (e ∷ es) h = list_all-append (λ sent. not (list_any t sent.behind)) (sending_made u before e es (sent_message e.what)) (sendings_from u (before ++ e ∷ []) es) ∙ both (list_all (λ sent. not (list_any t sent.behind)) (sending_made u before e es (sent_message e.what))) _ (made (sent_message e.what)) (none_behind u t (before ++ e ∷ []) es (or_false_right (t e) _ h))
+  where
+    made : (o : Option (Named Message)) → list_all (λ sent. not (list_any t sent.behind)) (sending_made u before e es o) ≡ true
+    made None = refl
+    made (Some y) = both (not (list_any t es)) true (ap not (or_false_right (t e) _ h)) refl
+
+-- behind the end of a connection each Sent has the end behind it
+abbrev pub is_lost : Sending → Bool
+is_lost sent = list_any is_down sent.behind
+
+pub lost_stay : (e : Entry) (sents : List Sending) → list_all is_lost sents ≡ true → list_all is_lost (map (later_sending e) sents) ≡ true
+lost_stay e [] h = refl
+lost_stay e (sent ∷ sents) h = both (is_lost (later_sending e sent)) _ (any_before is_down sent.behind (e ∷ []) (left (is_lost sent) _ h)) (lost_stay e sents (right (is_lost sent) _ h))
+
+pub all_lost : (e : Entry) (sents : List Sending) → is_down e ≡ true → list_all is_lost (map (later_sending e) sents) ≡ true
+all_lost e [] h = refl
+all_lost e (sent ∷ sents) h = both (is_lost (later_sending e sent)) _ (any_behind is_down sent.behind (e ∷ []) (or_left (is_down e) false h)) (all_lost e sents h)
+
+-- what is open of the operation of a Sent
+abbrev pub opens_of : Settings → Sending → Option Operation → List OpenRequest
+opens_of s sent q = elim q [ None ↦ [] | Some o ↦ elim (is_open s o sent) [ true ↦ open_request s o sent ∷ [] | false ↦ [] ] ]
+
+abbrev pub opens : Settings → Family → Sending → List OpenRequest
+opens s F sent = opens_of s sent (operation F sent.op)
+
+-- nothing where it isn't open
+pub not_open : (s : Settings) (F : Family) (sents : List Sending) (t : Sending → Bool) → ((sent : Sending) (o : Operation) → operation F sent.op ≡ Some o → t sent ≡ true → is_open s o sent ≡ false) → list_all t sents ≡ true → flat_map (opens s F) sents ≡ []
+not_open s F [] t f h = refl
+not_open s F (sent ∷ sents) t f h = ap (λ l. l ++ flat_map (opens s F) sents) (by (operation F sent.op) refl) ∙ not_open s F sents t f (right (t sent) _ h)
+  where
+    by : (q : Option Operation) → operation F sent.op ≡ q → opens_of s sent q ≡ []
+    by None e = refl
+    by (Some o) e = ap (λ b. elim b [ true ↦ open_request s o sent ∷ [] | false ↦ [] ]) (f sent o e (left (t sent) _ h))
+
+-- a Sent that is settled isn't open, nor is one behind which the connection ended
+pub closed_not_open : (s : Settings) (F : Family) (sents : List Sending) → list_all (is_closed s F) sents ≡ true → flat_map (opens s F) sents ≡ []
+closed_not_open s F sents h = not_open s F sents (is_closed s F) (λ sent o e k. by (closing_at s o sent) (not (list_any (λ x. is_expired o.name x || is_down x) sent.behind)) (not (is_abandoned_at o sent)) (sym (ap (passes (λ q. is_some (closing_at s q sent))) e) ∙ k)) h
+  where
+    by : (c : Option (List ℕ)) (a b : Bool) → is_some c ≡ true → (is_none c && a && b) ≡ false
+    by None a b k = absurd (let no : false ≡ true = k in cc)
+    by (Some r) a b k = refl
+
+pub lost_not_open : (s : Settings) (F : Family) (sents : List Sending) → list_all is_lost sents ≡ true → flat_map (opens s F) sents ≡ []
+lost_not_open s F sents h = not_open s F sents is_lost (λ sent o e k. by (is_none (closing_at s o sent)) (list_any (λ x. is_expired o.name x || is_down x) sent.behind) (not (is_abandoned_at o sent)) (any_imply is_down (λ x. is_expired o.name x || is_down x) sent.behind (λ x j. or_right (is_expired o.name x) (is_down x) j) k)) h
+  where
+    by : (c a b : Bool) → a ≡ true → (c && not a && b) ≡ false
+    by c false b k = absurd (let no : false ≡ true = k in cc)
+    by true true b k = refl
+    by false true b k = refl
