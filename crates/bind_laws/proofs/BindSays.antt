@@ -1,7 +1,7 @@
 -- What a bind connection's state says is what its list says.
-use Rattle.std.proofs.Common.{◌≡◌, ℕ, Bool, true, false, ◌==◌, ◌&&◌, ◌||◌, not, List, [], ◌∷◌, ◌++◌, flat_map, refl, ap, ◌∙◌, sym, subst, append_assoc}
+use Rattle.std.proofs.Common.{◌≡◌, ℕ, Bool, true, false, ◌&&◌, List, [], ◌∷◌, ◌++◌, flat_map, refl, ap, ◌∙◌, sym, subst, append_assoc}
 use Rattle.std.specs.Prelude.{Option, Some, None, is_some, if◌then◌else◌}
-use Rattle.std.specs.List.{list_any, list_all}
+use Rattle.std.specs.List.{list_all}
 use Rattle.std.proofs.lemmas.List.{append-nil}
 use Rattle.std.proofs.lemmas.List.Folds.{list_all-append}
 use Rattle.lload_names.specs.declared.names.Entry.{Entry}
@@ -9,31 +9,31 @@ use Rattle.lload_names.specs.declared.names.ConnKind.TheVariants.{Bind as BindKi
 use Rattle.lload_names.specs.declared.names.PartName.{PartName}
 use Rattle.lload_names.specs.declared.names.What.{What}
 use Rattle.lload_names.specs.declared.names.What.TheVariants as what
-use Rattle.lload_spec.specs.Lists.{first_passes, last_passes, implies, where_there}
+use Rattle.lload_spec.specs.Lists.{first_passes, implies, where_there}
 use Rattle.lload_spec.specs.Settings.{Settings, is_of_kind, is_kind}
 use Rattle.lload_spec.specs.Journal.{Family}
 use Rattle.lload_spec.specs.Entries.{expired_op, is_down}
-use Rattle.lload_spec.specs.Identifiers.{freed_by, ids_with, ids_at, with_freed}
+use Rattle.lload_spec.specs.Identifiers.{freed_by, ids_with, with_freed}
 use Rattle.lload_spec.specs.OneEach.{begins_with_bind}
 use Rattle.part_spec.specs.Marked.{Marked, Taken, entries}
-use Rattle.part_spec.specs.ConnectionState.{ConnectionState, empty_connection, step_connection, connection_behind, is_under_own, freed_id}
+use Rattle.part_spec.specs.ConnectionState.{empty_connection, step_connection, connection_behind, freed_id}
 use Rattle.part_spec.specs.Fit.{ConnectionLedger, empty_connection_ledger, step_connection_ledger, fits_connection, ledger_behind as behind}
-use Rattle.part_spec.specs.Share.{has_letter, is_free_by}
+use Rattle.part_spec.specs.Share.{is_free_by}
 use Rattle.part_spec.specs.Says.{ConnectionSays}
+use Rattle.connection_laws.specs.Turns.{connection_event}
+use Rattle.bind_laws.specs.Turns.{is_told_rightly, are_told_rightly, BindSays}
+use Rattle.lload_spec.proofs.Growth.{left, right}
 use Rattle.part_spec.proofs.Joins.{connection-waits}
-use Rattle.lload_spec.proofs.Growth.{left, right, both}
 use Rattle.part_laws.proofs.Induction.{through}
 use Rattle.part_laws.proofs.ListLaws.{false_by, last_push}
-use Rattle.connection_laws.specs.Turns.{connection_event}
 use Rattle.connection_laws.proofs.Permits.{Permit, Chain, UpStands, up_stands_more, push_entry}
 use Rattle.connection_laws.proofs.Closings.{ids_push}
 use Rattle.connection_laws.proofs.Makes.{Makes, turn_of, turn_marks}
 use Rattle.connection_laws.proofs.Through.{steps_are}
-use Rattle.bind_laws.specs.Turns.{is_told_rightly, are_told_rightly, BindSays}
 use Rattle.bind_laws.proofs.Lone.{BindStands, marks_a_bind, stands_step, no_own}
 use Rattle.bind_laws.proofs.Meets.{not_own}
-use Rattle.bind_laws.proofs.Told.{Tells, SentsAre, tells_any}
-use Rattle.bind_laws.proofs.Tells.{got_frees, got_sents, own_sents, sent_sents, expired_down, idle_sents}
+use Rattle.bind_laws.proofs.Tells.{Tells, SentsAre, tells_any}
+use Rattle.bind_laws.proofs.TellsMore.{got_frees, got_sents, own_sents, sent_sents, expired_down, idle_sents}
 use Rattle.bind_laws.proofs.BindShare.{BindKeeps, begins_alone, after_turn, nothing_kept, event_keeps_by}
 
 abbrev marks_rightly : Settings → Family → Option Taken → Bool

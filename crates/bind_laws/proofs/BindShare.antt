@@ -16,6 +16,7 @@ use Rattle.lload_names.specs.declared.names.What.TheVariants as what
 use Rattle.lload_names.specs.declared.plans.Place.{Place}
 use Rattle.lload_names.specs.declared.inputs.Input.{Input}
 use Rattle.lload_names.specs.declared.inputs.Input.TheVariants.{Arrive, LinkUp, Message as MessageIn, LetterFrom, Tick, LinkGone, Stall, Flow, Reload}
+use Rattle.lload_names.specs.declared.names.EndWhy.TheVariants.{Unfinished}
 use Rattle.lload_spec.specs.Lists.{passes, agrees}
 use Rattle.lload_spec.specs.Settings.{Settings, is_kind, is_of_kind, place_at}
 use Rattle.lload_spec.specs.Journal.{same_part}
@@ -30,18 +31,17 @@ use Rattle.part_spec.specs.BindTurn.{bind_act, link_up, message, forwards, leave
 use Rattle.part_spec.specs.Turn.{connection_act}
 use Rattle.part_spec.specs.Fit.{ConnectionLedger, empty_connection_ledger, step_connection_ledger, fits_connection, is_unfit, is_forward_of, is_of_its_kind, is_free_for, is_held_for, ledger_behind as behind}
 use Rattle.part_spec.specs.Share.{ConnectionShare}
-use Rattle.lload_spec.proofs.Growth.{left, right}
 use Rattle.part_laws.specs.Turns.{Event, letter_with, made}
+use Rattle.connection_laws.specs.Turns.{connection_event}
+use Rattle.bind_laws.specs.Turns.{BindShares}
+use Rattle.lload_spec.proofs.Growth.{left, right}
 use Rattle.part_laws.proofs.Induction.{through}
 use Rattle.part_laws.proofs.ListLaws.{not_true}
-use Rattle.connection_laws.specs.Turns.{connection_event}
 use Rattle.connection_laws.proofs.Clauses.{UpKeeps, up_keeps_nothing, keeps_turn}
 use Rattle.connection_laws.proofs.Makes.{Makes, turn_of, nothing_made, turn_marks}
 use Rattle.connection_laws.proofs.Rules.{gives_some, fit_by, placed_at, so, without_letter, with_letter, sever_made, event_after, whole_share}
-use Rattle.bind_laws.specs.Turns.{BindShares}
 use Rattle.bind_laws.proofs.Lone.{BindStands, marks_a_bind, bind_through, no_own}
 use Rattle.bind_laws.proofs.Rules.{forward_act, leave_act, makes_link, makes_message, makes_forward, makes_leave, makes_tick}
-use Rattle.lload_names.specs.declared.names.EndWhy.TheVariants.{Unfinished}
 
 -- What is kept behind each turn.
 pub record BindKeeps (s : Settings) (u : ℕ) (before : List Marked) (l : ConnectionLedger) : Type 0 where

@@ -1,7 +1,6 @@
 -- The live Sent of a bind connection behind a message: settled exactly where its row is.
-use Rattle.std.proofs.Common.{◌≡◌, ℕ, ◌⊎◌, inl, inr, Bool, true, false, ◌==◌, ◌&&◌, ◌||◌, not, List, [], ◌∷◌, ◌++◌, refl, ap, ◌∙◌, sym, subst}
+use Rattle.std.proofs.Common.{◌≡◌, ℕ, ◌⊎◌, inl, inr, Bool, true, false, ◌==◌, ◌&&◌, ◌||◌, List, [], ◌∷◌, ◌++◌, refl, ap, ◌∙◌, sym, subst}
 use Rattle.std.specs.Prelude.{Option, Some, None, is_some, is_none, if◌then◌else◌, nat_lt}
-use Rattle.std.specs.List.{list_any}
 use Rattle.std.specs.Option.{option_and_then, option_map, option_or}
 use Rattle.std.specs.Str.{bytes_eq}
 use Rattle.ldap_spec.specs.Messages.{Message}
@@ -9,18 +8,17 @@ use Rattle.ldap_spec.specs.Kinds.{kind_of, same_kind, fits, is_final, tag_of}
 use Rattle.ldap_spec.specs.Responses.{result_code}
 use Rattle.ldap_spec.specs.Bodies.{who_am_i, abandon}
 use Rattle.lload_names.specs.declared.names.Entry.{Entry}
-use Rattle.lload_names.specs.declared.names.OpKind.{OpKind}
 use Rattle.lload_names.specs.declared.names.OpKind.TheVariants.{Bind}
 use Rattle.lload_spec.specs.Lists.{passes, first_passes}
 use Rattle.lload_spec.specs.Settings.{Settings}
 use Rattle.lload_spec.specs.Journal.{Family}
 use Rattle.lload_spec.specs.Entries.{got_message, own_message, is_own, is_expired, is_down}
 use Rattle.lload_spec.specs.Operations.{Operation, is_of, is_final_for}
-use Rattle.lload_spec.specs.Answers.{Sending, Final, gives_id, answer_of, final_answer, extended_rest, extended_under, who_id, who_answer, closing_by, closing_at, asks_who, is_kept_back}
-use Rattle.lload_laws.specs.ConnectionGrowth.{later_sending}
-use Rattle.part_spec.specs.ConnectionState.{UpRow, Kept, is_bind_row, is_under, keeps_back, behind_message, behind_answer}
+use Rattle.lload_spec.specs.Answers.{Sending, Final, gives_id, answer_of, final_answer, extended_rest, extended_under, who_answer, closing_at, asks_who, is_kept_back}
+use Rattle.part_spec.specs.ConnectionState.{UpRow, Kept, is_bind_row, keeps_back, behind_message, behind_answer}
 use Rattle.part_spec.specs.Share.{succeeds}
-use Rattle.lload_spec.proofs.Growth.{left, right, both}
+use Rattle.lload_laws.specs.ConnectionGrowth.{later_sending}
+use Rattle.lload_spec.proofs.Growth.{right}
 use Rattle.part_laws.proofs.ListLaws.{eqb_sym}
 use Rattle.connection_laws.proofs.Closings.{final_more, final_push, who_more, extended_push}
 use Rattle.bind_laws.proofs.Meets.{bind_kind, code_there}
@@ -30,7 +28,6 @@ use Rattle.bind_laws.proofs.Sents.{IsLive, IsAnswered, IsAsked, becomes, kept_mo
 pub record StaysOpen (s : Settings) (F : Family) (next : ℕ) (o : Operation) (rows : List UpRow) (sent : Sending) (ms : List Entry) : Type 0 where
   pub row : UpRow
   pub is : rows ≡ row ∷ []
-  pub id : row.id ≡ sent.id
   pub unsettled : is_some (closing_at s o sent) ≡ false
   pub live : first_passes is_down ms ≡ false → IsLive s F next row sent ms
 
@@ -52,9 +49,6 @@ module _ (s : Settings) (F : Family) (next : ℕ) (r : UpRow) (sent : Sending) (
   abbrev final_text : Bool → Bool → Option Final
   final_text a g = if a then (if g then Some (record { rest = m.rest; behind = [] }) else None) else None
 
-  final_here : Option (List ℕ) → Option Final
-  final_here a = if passes (is_final_for o.request) a then option_map (λ q. record { rest = q; behind = [] }) a else None
-
   final_is : (a f g : Bool) → (r.id == m.id) ≡ a → fits Bind m.rest ≡ f → is_final Bind m.rest ≡ g → final_answer o sent ≡ None → final_answer o (later_sending e sent) ≡ final_text (a && f) g
   final_is a f g x y z none = final_push o.request sent.id sent.behind e none h.reigns ∙ ap (λ b. if b then None else final_by (answer_of o.request sent.id e)) other ∙ ap (λ q. final_by (answer_in q)) got ∙ ap (λ i. final_by (if i && passes (λ kind. fits kind m.rest) (kind_of o.request.rest) then Some m.rest else None)) (ap (λ i. m.id == i) h.id ∙ eqb_sym m.id r.id ∙ x) ∙ ap (λ k. final_by (if a && passes (λ kind. fits kind m.rest) k then Some m.rest else None)) h.kind ∙ ap (λ b. final_by (if a && b then Some m.rest else None)) y ∙ by (a && f)
     where
@@ -73,7 +67,7 @@ module _ (s : Settings) (F : Family) (next : ℕ) (r : UpRow) (sent : Sending) (
 
   -- a row that stays as it was, but for the moment of its answer
   stays : (q : UpRow) (rows : List UpRow) → rows ≡ q ∷ [] → q.ask_who ≡ r.ask_who → q.id ≡ r.id → q.op ≡ r.op → is_some (closing_at s o (later_sending e sent)) ≡ false → (first_passes is_down ms ≡ false → IsAnswered s o (later_sending e sent) q.kept ms) → Comes s F next o rows (later_sending e sent) ms
-  stays q rows is a b c unclosed answer = inr (record { row = q; is = is; id = b ∙ sym h.id; unsettled = unclosed; live = λ d. becomes s F next r sent e ms h other quiet next q (ap (λ i. nat_lt i next) b ∙ h.below) a b c (answer d) })
+  stays q rows is a b c unclosed answer = inr (record { row = q; is = is; unsettled = unclosed; live = λ d. becomes s F next r sent e ms h other quiet next q (ap (λ i. nat_lt i next) b ∙ h.below) a b c (answer d) })
 
   -- where nothing was kept back
   fresh : IsAnswered s o sent None (e ∷ ms) → (succeeds m (record r { kept = None }) ≡ true → first_passes (is_own who_am_i) ms ≡ true) → ((r.id == m.id) ≡ true → is_final Bind m.rest ≡ true → is_none (result_code m.rest) ≡ true → first_passes is_down ms ≡ true) → Comes s F next o (behind_message at m (record r { kept = None })) (later_sending e sent) ms

@@ -6,7 +6,7 @@ pub mod BadMessages
 pub mod BindGiving
 pub mod Sents
 pub mod Gots
-pub mod Told
 pub mod Tells
+pub mod TellsMore
 pub mod BindSays
-pub mod BindOpens
+pub mod BindMeets

@@ -1,33 +1,25 @@
--- The row of a bind connection is of its last Sent, and each Sent before it is settled.
-use Rattle.std.proofs.Common.{◌≡◌, ℕ, Bool, true, false, ◌==◌, ◌&&◌, ◌||◌, not, List, [], ◌∷◌, ◌++◌, flat_map, refl, ap, ◌∙◌, sym, subst, append_assoc}
-use Rattle.std.specs.Prelude.{Option, Some, None, map, is_some, is_none, nat_lt, if◌then◌else◌}
-use Rattle.std.specs.List.{list_any, list_all}
+-- A Sent of a bind connection and its row: what the list says of its answer, and what an entry leaves of it.
+use Rattle.std.proofs.Common.{◌≡◌, ℕ, Bool, true, false, ◌==◌, ◌&&◌, ◌||◌, not, List, [], ◌∷◌, ◌++◌, refl, ap, ◌∙◌, sym}
+use Rattle.std.specs.Prelude.{Option, Some, None, is_none, nat_lt, if◌then◌else◌}
+use Rattle.std.specs.List.{list_any}
 use Rattle.std.specs.Option.{option_or, option_and_then, option_map}
 use Rattle.std.specs.Str.{bytes_eq}
-use Rattle.std.proofs.lemmas.List.{append-nil, map-append}
-use Rattle.std.proofs.lemmas.List.Folds.{list_any-append, list_all-append}
-use Rattle.std.proofs.Math.Bool.{or-false}
+use Rattle.std.proofs.lemmas.List.Folds.{list_any-append}
 use Rattle.ldap_spec.specs.Messages.{Message}
-use Rattle.ldap_spec.specs.Kinds.{kind_of, fits, is_final, tag_of, same_kind}
+use Rattle.ldap_spec.specs.Kinds.{kind_of, fits, same_kind}
 use Rattle.ldap_spec.specs.Responses.{result_code}
 use Rattle.ldap_spec.specs.Bodies.{who_am_i, abandon}
 use Rattle.lload_names.specs.declared.names.Entry.{Entry}
-use Rattle.lload_names.specs.declared.names.OpName.{OpName}
 use Rattle.lload_names.specs.declared.names.OpKind.TheVariants.{Bind}
-use Rattle.lload_names.specs.declared.names.What.{What}
-use Rattle.lload_names.specs.declared.names.What.TheVariants as what
 use Rattle.lload_spec.specs.Lists.{passes, first_passes}
 use Rattle.lload_spec.specs.Settings.{Settings}
 use Rattle.lload_spec.specs.Journal.{Family}
-use Rattle.lload_spec.specs.Entries.{got_message, own_message, is_own, is_expired, is_down}
+use Rattle.lload_spec.specs.Entries.{got_message, own_message, is_own, is_expired}
 use Rattle.lload_spec.specs.Operations.{Operation, operation, is_of, is_final_for}
-use Rattle.lload_spec.specs.Answers.{Sending, Final, sendings, gives_id, answer_of, final_under, final_answer, extended_under, who_id, who_answer, closing_at, asks_who, is_kept_back, extended_rest}
-use Rattle.lload_spec.specs.Identifiers.{frees, freed_id as freed_of}
+use Rattle.lload_spec.specs.Answers.{Sending, Final, gives_id, answer_of, final_answer, extended_under, who_id, who_answer, asks_who, is_kept_back, extended_rest}
+use Rattle.part_spec.specs.ConnectionState.{UpRow, Kept, is_bind_row, behind_own, is_abandoned_by}
 use Rattle.lload_laws.specs.ConnectionGrowth.{later_sending}
-use Rattle.part_spec.specs.ConnectionState.{ConnectionState, UpRow, Kept, is_bind_row, is_under, is_under_who, keeps_back, behind_answer, behind_who, behind_message, freed_id, behind_own, is_abandoned_by}
-use Rattle.lload_spec.proofs.Growth.{left, right, both}
 use Rattle.connection_laws.proofs.Closings.{final_more, final_push, who_more, extended_push}
-use Rattle.bind_laws.proofs.Meets.{bind_kind}
 
 -- What the list says of the answer that is kept back: none came yet; or it came, and the Who Am I stands directly behind it, or
 -- is the next entry, and isn't answered.
@@ -74,8 +66,8 @@ behind_own_by m r b =
     ]
 
 -- at the end of a list any entries may come
-pub any_behind : (s : Settings) (F : Family) (next : ℕ) (r : UpRow) (sent : Sending) (ms : List Entry) → IsLive s F next r sent [] → IsLive s F next r sent ms
-any_behind s F next r sent ms h = record { o = h.o; found = h.found; kind = h.kind; asks = h.asks; id = h.id; op = h.op; below = h.below; reigns = h.reigns; going = h.going; answer = by r.kept h.answer }
+pub any_next : (s : Settings) (F : Family) (next : ℕ) (r : UpRow) (sent : Sending) (ms : List Entry) → IsLive s F next r sent [] → IsLive s F next r sent ms
+any_next s F next r sent ms h = record { o = h.o; found = h.found; kind = h.kind; asks = h.asks; id = h.id; op = h.op; below = h.below; reigns = h.reigns; going = h.going; answer = by r.kept h.answer }
   where
     asked : (w : Option ℕ) (es : List Entry) → IsAsked w es [] → IsAsked w es ms
     asked None es a = absurd (let no : false ≡ true = a.1 in cc)

@@ -1,25 +1,25 @@
 -- What is proved of the lists that the turns of a bind connection make.
-use Rattle.std.specs.Prelude.{◌≡◌, ℕ, true, List, IsTrue, Bool, ◌&&◌, map}
+use Rattle.std.specs.Prelude.{◌≡◌, ℕ, Bool, true, ◌&&◌, List, IsTrue}
+use Rattle.std.specs.List.{list_all}
 use Rattle.lload_names.specs.declared.names.ConnKind.TheVariants.{Bind as BindKind}
 use Rattle.lload_names.specs.declared.names.PartName.TheVariants.{Up as Connection}
-use Rattle.lload_spec.specs.Settings.{Settings, is_of_kind}
-use Rattle.part_spec.specs.ConnectionState.{empty_connection, step_connection, connection_of, open_request}
-use Rattle.part_spec.specs.Fit.{is_all_fit, fit_beginning}
-use Rattle.part_spec.specs.Gives.{gives}
-use Rattle.part_spec.specs.Share.{Share}
-use Rattle.part_laws.specs.Turns.{Event, letters_given}
-use Rattle.connection_laws.specs.Turns.{connection_event, connection_list}
-use Rattle.std.specs.List.{list_all}
 use Rattle.lload_names.specs.declared.names.OpKind.TheVariants.{Bind}
 use Rattle.lload_names.specs.declared.names.Letter.{Letter}
 use Rattle.lload_names.specs.declared.names.Letter.TheVariants.{Forward}
+use Rattle.lload_spec.specs.Settings.{Settings, is_of_kind}
 use Rattle.lload_spec.specs.Lists.{passes, agrees, where_there}
 use Rattle.lload_spec.specs.Journal.{Family}
 use Rattle.lload_spec.specs.Operations.{operation, is_of}
 use Rattle.lload_spec.specs.Answers.{asks_who}
+use Rattle.lload_spec.specs.CausedUp.{message_facts as facts_by_list}
+use Rattle.part_spec.specs.ConnectionState.{empty_connection, step_connection, connection_of, message_facts}
+use Rattle.part_spec.specs.Fit.{is_all_fit, fit_beginning}
+use Rattle.part_spec.specs.Gives.{gives}
+use Rattle.part_spec.specs.Share.{Share}
 use Rattle.part_spec.specs.Marked.{Marked, entries}
 use Rattle.part_spec.specs.Says.{ConnectionSays}
-use Rattle.lload_spec.specs.CausedUp.{open_requests}
+use Rattle.part_laws.specs.Turns.{Event, letters_given}
+use Rattle.connection_laws.specs.Turns.{connection_event, connection_list}
 
 -- a bind connection's list keeps its share
 abbrev pub BindShares : Type 0
@@ -54,10 +54,11 @@ BindSays =
     → IsTrue (are_told_rightly s F (fit_beginning s (Connection u) (connection_list s u xs)))
     → ConnectionSays s F u (fit_beginning s (Connection u) (connection_list s u xs))
 
--- and the requests that a message meets as open are those that the list says are open
-abbrev pub BindOpens : Type 0
-BindOpens =
+-- and what a message meets, by the state, is what it meets by the list: which request is open, and which identifiers were
+-- given
+abbrev pub BindMeets : Type 0
+BindMeets =
     (s : Settings) (u : ℕ) → is_of_kind s BindKind u ≡ true → (F : Family) (xs : List Event)
     → IsTrue (are_told_rightly s F (fit_beginning s (Connection u) (connection_list s u xs)))
-    → map open_request (connection_of s u (fit_beginning s (Connection u) (connection_list s u xs))).rows
-    ≡ open_requests s F u (entries (fit_beginning s (Connection u) (connection_list s u xs)))
+    → message_facts (connection_of s u (fit_beginning s (Connection u) (connection_list s u xs)))
+    ≡ facts_by_list s F u (entries (fit_beginning s (Connection u) (connection_list s u xs)))

@@ -1,29 +1,27 @@
 -- What answers and settles an operation at a connection, in a list that grows by an entry.
-use Rattle.std.proofs.Common.{◌≡◌, ℕ, Bool, true, false, ◌==◌, ◌&&◌, ◌||◌, not, List, [], ◌∷◌, ◌++◌, refl, ap, ◌∙◌, sym, append_assoc}
+use Rattle.std.proofs.Common.{◌≡◌, ℕ, Bool, true, false, ◌&&◌, ◌||◌, not, List, [], ◌∷◌, ◌++◌, refl, ap, ◌∙◌, sym, append_assoc}
 use Rattle.std.specs.Prelude.{Option, Some, None, flat_map, is_some, is_none, if◌then◌else◌, map}
 use Rattle.std.specs.List.{list_any, list_all}
 use Rattle.std.specs.Option.{option_and_then, option_map, option_or}
-use Rattle.std.specs.Str.{bytes_eq}
+use Rattle.std.proofs.lemmas.List.{append-nil}
+use Rattle.std.proofs.lemmas.List.Folds.{list_all-append}
 use Rattle.ldap_spec.specs.Messages.{Message}
 use Rattle.ldap_spec.specs.Responses.{result_code}
-use Rattle.ldap_spec.specs.Bodies.{who_am_i}
 use Rattle.lload_names.specs.declared.names.Entry.{Entry}
 use Rattle.lload_names.specs.declared.names.OpKind.TheVariants.{Bind}
 use Rattle.lload_spec.specs.Lists.{passes}
 use Rattle.lload_spec.specs.Settings.{Settings}
 use Rattle.lload_spec.specs.Journal.{Family}
-use Rattle.lload_spec.specs.Entries.{got_message, own_message, Named, sent_message, is_down, is_expired}
+use Rattle.lload_spec.specs.Entries.{got_message, Named, sent_message, is_down, is_expired}
 use Rattle.lload_spec.specs.Operations.{Operation, operation, is_of, is_final_for}
 use Rattle.lload_spec.specs.Answers.{Sending, Final, gives_id, answer_of, final_under, final_answer, extended_rest, extended_under, who_id, who_answer, closing_by, closing_at, asks_who, is_kept_back, sendings_from, sending_made, is_open, is_abandoned_at}
 use Rattle.lload_spec.specs.Identifiers.{Ids, freed_id, frees, ids_behind, ids_from, ids_at, is_given_up, no_ids}
-use Rattle.lload_laws.specs.ConnectionGrowth.{later_sending}
-use Rattle.lload_spec.proofs.Growth.{left, right, both}
-use Rattle.std.proofs.lemmas.List.{append-nil}
 use Rattle.lload_spec.specs.BadMessages.{OpenRequest}
 use Rattle.lload_spec.specs.CausedUp.{open_request}
-use Rattle.std.proofs.lemmas.List.Folds.{list_all-append}
-use Rattle.part_laws.proofs.ListLaws.{any_before, any_behind, or_left, or_right}
+use Rattle.lload_laws.specs.ConnectionGrowth.{later_sending}
+use Rattle.lload_spec.proofs.Growth.{left, right, both}
 use Rattle.lload_laws.proofs.ListLaws.{any_imply}
+use Rattle.part_laws.proofs.ListLaws.{any_before, any_behind, or_left, or_right}
 use Rattle.connection_laws.proofs.Apart.{or_false_right}
 
 -- a final answer stays, with the entry behind it

@@ -14,6 +14,7 @@ pub mod Rows
 pub mod Regular
 pub mod Apart
 pub mod ApartTurns
+pub mod Given
 pub mod RegularLetters
 pub mod RegularTurns
 pub mod RegularTicks

@@ -1,11 +1,13 @@
--- What a message meets on a bind connection is what its list says that it meets: the request that is open, and no own Bind.
-use Rattle.std.proofs.Common.{◌≡◌, ℕ, Bool, true, false, ◌==◌, ◌&&◌, ◌||◌, not, List, [], ◌∷◌, ◌++◌, flat_map, refl, ap, ◌∙◌, sym, subst, append_assoc}
+-- What a message meets on a bind connection, by its state, is what its list says that it meets: no own Bind, the request that is
+-- open, and the identifiers that were given.
+use Rattle.std.proofs.Common.{◌≡◌, ℕ, Bool, true, false, ◌&&◌, ◌||◌, not, List, [], ◌∷◌, ◌++◌, flat_map, refl, ap, ◌∙◌, sym, append_assoc}
 use Rattle.std.specs.Prelude.{Option, Some, None, map, is_some, is_none, if◌then◌else◌}
 use Rattle.std.specs.List.{list_any, list_all}
 use Rattle.std.proofs.lemmas.Grind.{flat_map-append}
 use Rattle.std.proofs.lemmas.List.{append-nil}
 use Rattle.std.proofs.lemmas.List.Folds.{list_all-append}
 use Rattle.ldap_spec.specs.Kinds.{kind_of, same_kind}
+use Rattle.ldap_spec.specs.Bodies.{abandon}
 use Rattle.lload_names.specs.declared.names.Entry.{Entry}
 use Rattle.lload_names.specs.declared.names.OpKind.{OpKind}
 use Rattle.lload_names.specs.declared.names.OpKind.TheVariants.{Bind}
@@ -16,33 +18,32 @@ use Rattle.lload_spec.specs.Lists.{passes, implies}
 use Rattle.lload_spec.specs.Settings.{Settings, is_of_kind}
 use Rattle.lload_spec.specs.Journal.{Family}
 use Rattle.lload_spec.specs.BadMessages.{OpenRequest}
-use Rattle.lload_spec.specs.CausedUp.{open_requests, open_request as open_request_of}
-use Rattle.lload_spec.specs.Entries.{is_down, is_expired, is_own, sent_message, down_why}
-use Rattle.lload_spec.specs.Operations.{Operation, operation, is_of}
-use Rattle.lload_spec.specs.Answers.{Sending, Final, sendings, sending_made, final_answer, closing_at, who_id, asks_who, is_kept_back, is_open, is_abandoned_at, until_sent}
-use Rattle.lload_spec.specs.OneEach.{begins_with_bind}
-use Rattle.ldap_spec.specs.Bodies.{abandon}
-use Rattle.lload_laws.specs.ConnectionGrowth.{later_sending}
-use Rattle.lload_laws.proofs.ConnectionGrowth.{sendings_grow}
+use Rattle.lload_spec.specs.CausedUp.{open_requests, open_request as open_request_of, own_bind_id, has_got, message_facts as facts_by_list}
+use Rattle.lload_spec.specs.Entries.{is_down, is_expired, is_own, sent_message, down_why, is_linked, given_id}
+use Rattle.lload_spec.specs.Answers.{Sending, Final, sendings, sending_made, final_answer, closing_at, who_id, asks_who, is_kept_back, is_open, until_sent}
+use Rattle.lload_spec.specs.OneEach.{begins_with_bind, is_own_bind}
+use Rattle.lload_spec.specs.Strict.{may_follow_down}
 use Rattle.part_spec.specs.Marked.{Marked, Taken, entries}
-use Rattle.part_spec.specs.ConnectionState.{ConnectionState, UpRow, Kept, empty_connection, step_connection, connection_behind, connection_of, is_kept, open_request, is_bind_row}
+use Rattle.part_spec.specs.ConnectionState.{ConnectionState, UpRow, Kept, empty_connection, step_connection, connection_behind, connection_of, open_request, is_bind_row, message_facts, OwnWait}
 use Rattle.part_spec.specs.Fit.{ConnectionLedger, empty_connection_ledger, step_connection_ledger, fits_connection, ledger_behind as behind}
+use Rattle.lload_laws.specs.ConnectionGrowth.{later_sending}
+use Rattle.connection_laws.specs.Turns.{connection_event}
+use Rattle.bind_laws.specs.Turns.{are_told_rightly, BindMeets}
 use Rattle.lload_spec.proofs.Growth.{left, right, both}
+use Rattle.lload_laws.proofs.ConnectionGrowth.{sendings_grow}
 use Rattle.part_laws.proofs.Induction.{through}
 use Rattle.part_laws.proofs.ListLaws.{not_true}
-use Rattle.connection_laws.specs.Turns.{connection_event}
-use Rattle.connection_laws.proofs.Permits.{Permit, Chain, UpStands, push_entry}
+use Rattle.connection_laws.proofs.Permits.{Chain, push_entry}
 use Rattle.connection_laws.proofs.Closings.{opens, closed_not_open, lost_not_open, is_lost, lost_stay, all_lost, none_behind, opens_of}
 use Rattle.connection_laws.proofs.Makes.{Makes, turn_of}
 use Rattle.connection_laws.proofs.Through.{steps_are, gone_through}
-use Rattle.bind_laws.specs.Turns.{are_told_rightly, BindOpens}
-use Rattle.bind_laws.proofs.Lone.{is_lone, marks_a_bind}
+use Rattle.connection_laws.proofs.Given.{Given, given_through, none_given}
+use Rattle.bind_laws.proofs.Lone.{is_lone, marks_a_bind, no_own}
 use Rattle.bind_laws.proofs.Meets.{bind_kind}
 use Rattle.bind_laws.proofs.Sents.{IsLive, IsAnswered, IsAsked}
-use Rattle.bind_laws.proofs.Told.{Tells, SentsAre, RowsAre, open_now}
-use Rattle.bind_laws.proofs.BindShare.{BindKeeps, begins_alone, event_keeps_by}
+use Rattle.bind_laws.proofs.Tells.{SentsAre, RowsAre, open_now}
+use Rattle.bind_laws.proofs.BindShare.{begins_alone, event_keeps_by}
 use Rattle.bind_laws.proofs.BindSays.{BindTells, tells_turn, nothing_told}
-use Rattle.lload_spec.specs.Strict.{may_follow_down}
 
 -- none of two tests
 none_or : (a b c : Entry → Bool) (es : List Entry) → list_any (λ x. a x || b x) es ≡ false → list_any c es ≡ false → list_any (λ x. a x || c x) es ≡ false
@@ -111,19 +112,43 @@ record BindKnows (s : Settings) (F : Family) (u : ℕ) (before : List Marked) (l
   pub tells : BindTells s F u before l
   pub gone : l.state.down ≡ true → l.state.rows ≡ []
   pub lost : l.state.down ≡ true → list_all is_lost (sendings u (entries before)) ≡ true
+  pub given : Given (entries before) l.state
 
 knows_turn : (s : Settings) (F : Family) (u : ℕ) → begins_with_bind s u ≡ false → (before : List Marked) (l : ConnectionLedger) (at : ℕ) (mark : Option Taken) (ws : List What) → BindKnows s F u before l → marks_a_bind mark ≡ true → Makes s before l at mark ws → BindKnows s F u (before ++ turn_of l.state.number at mark ws) (behind (step_connection_ledger s) l (turn_of l.state.number at mark ws))
-knows_turn s F u begins before l at mark ws h n k = record { tells = tells_turn s F u begins before l at mark ws h.tells n k; gone = gone_through s (turn_of l.state.number at mark ws) before l k.0 h.gone; lost = lost_through s u (turn_of l.state.number at mark ws) before l k.0 h.lost }
+knows_turn s F u begins before l at mark ws h n k = record { tells = tells_turn s F u begins before l at mark ws h.tells n k; gone = gone_through s (turn_of l.state.number at mark ws) before l k.0 h.gone; lost = lost_through s u (turn_of l.state.number at mark ws) before l k.0 h.lost; given = given_through s u (turn_of l.state.number at mark ws) before l h.tells.keeps.keeps.stands k.0 h.given }
 
 nothing_known : (s : Settings) (F : Family) (u : ℕ) → is_of_kind s BindKind u ≡ true → BindKnows s F u [] (empty_connection_ledger s u)
-nothing_known s F u place = record { tells = nothing_told s F u place; gone = λ d. refl; lost = λ d. refl }
+nothing_known s F u place = record { tells = nothing_told s F u place; gone = λ d. refl; lost = λ d. refl; given = none_given s u }
 
-opens_so : (s : Settings) (F : Family) (u : ℕ) (before : List Marked) (l : ConnectionLedger) → BindKnows s F u before l → are_told_rightly s F before ≡ true → map open_request (connection_of s u before).rows ≡ open_requests s F u (entries before)
-opens_so s F u before l h told = ap (λ p. map open_request p.rows) (steps_are s (empty_connection s u) before ∙ sym h.tells.keeps.keeps.state) ∙ by l.state.down refl
+-- no own Bind
+own_none : (s : Settings) (u : ℕ) (place : List Entry) → begins_with_bind s u ≡ false → own_bind_id s u place ≡ None
+own_none s u [] b = refl
+own_none s u (e ∷ []) b = refl
+own_none s u (e ∷ f ∷ es) b = ap (λ c. if c && is_linked e.what && is_own_bind s f then given_id f.what else None) b
+
+abbrev waiting_own : (ℕ → Bool) → Option ℕ → Option ℕ
+waiting_own got q = elim (passes (λ id. not (got id)) q) [ true ↦ q | false ↦ None ]
+
+own_so : (s : Settings) (u : ℕ) (place : List Entry) → begins_with_bind s u ≡ false → waiting_own (λ id. has_got id place) (own_bind_id s u place) ≡ None
+own_so s u place b = ap (waiting_own (λ id. has_got id place)) (own_none s u place b)
+
+-- the open requests
+opens_so : (s : Settings) (F : Family) (u : ℕ) (before : List Marked) (l : ConnectionLedger) → BindKnows s F u before l → are_told_rightly s F before ≡ true → map open_request l.state.rows ≡ open_requests s F u (entries before)
+opens_so s F u before l h told = by l.state.down refl
   where
     by : (b : Bool) → l.state.down ≡ b → map open_request l.state.rows ≡ open_requests s F u (entries before)
     by true d = ap (map open_request) (h.gone d) ∙ sym (lost_not_open s F (sendings u (entries before)) (h.lost d))
     by false d = sym (sents_open s F u (entries before) l.state h.tells.keeps.stands.lone (sym h.tells.keeps.keeps.stands.says.down ∙ d) ((h.tells.tells told).sents d refl))
 
-pub bind_opens : BindOpens
-bind_opens s u place F xs = through (fits_connection s) (step_connection_ledger s) (step_connection s) (λ l. l.state) (λ l m. refl) (connection_event s) (BindKnows s F u) (λ before. are_told_rightly s F before ≡ true → map open_request (connection_of s u before).rows ≡ open_requests s F u (entries before)) (λ before l h. opens_so s F u before l h) (λ before l x h f. event_keeps_by s u place (BindKnows s F u) (λ b i k. k.tells.keeps) (knows_turn s F u (begins_alone s u place)) before l h x f) xs [] (empty_connection_ledger s u) (nothing_known s F u place)
+-- all that a message meets
+meets_so : (s : Settings) (F : Family) (u : ℕ) → begins_with_bind s u ≡ false → (before : List Marked) (l : ConnectionLedger) → BindKnows s F u before l → are_told_rightly s F before ≡ true → message_facts (connection_of s u before) ≡ facts_by_list s F u (entries before)
+meets_so s F u begins before l h told = ap message_facts (steps_are s (empty_connection s u) before ∙ sym h.tells.keeps.keeps.state) ∙ (λ i. record { own = own i; requests = opens_so s F u before l h told i; given = λ id. (sym (h.given.ids id)) i })
+  where
+    own_id : Option OwnWait → Option ℕ
+    own_id o = elim o [ None ↦ None | Some x ↦ Some x.id ]
+
+    own : own_id l.state.own_bind ≡ waiting_own (λ id. has_got id (entries before)) (own_bind_id s u (entries before))
+    own = ap own_id (no_own s u (entries before) l.state begins h.tells.keeps.keeps.stands.own) ∙ sym (own_so s u (entries before) begins)
+
+pub bind_meets : BindMeets
+bind_meets s u place F xs = through (fits_connection s) (step_connection_ledger s) (step_connection s) (λ l. l.state) (λ l m. refl) (connection_event s) (BindKnows s F u) (λ before. are_told_rightly s F before ≡ true → message_facts (connection_of s u before) ≡ facts_by_list s F u (entries before)) (λ before l h. meets_so s F u (begins_alone s u place) before l h) (λ before l x h f. event_keeps_by s u place (BindKnows s F u) (λ b i k. k.tells.keeps) (knows_turn s F u (begins_alone s u place)) before l h x f) xs [] (empty_connection_ledger s u) (nothing_known s F u place)
