@@ -10,6 +10,9 @@ use Rattle.lload_names.specs.declared.names.OpName.{OpName}
 use Rattle.lload_names.specs.declared.names.OpKind.TheVariants.{Bind, Search}
 use Rattle.lload_names.specs.declared.names.Refusal.TheVariants.{C4}
 use Rattle.lload_names.specs.declared.names.What.TheVariants as what
+use Rattle.lload_names.specs.declared.names.PartName.TheVariants.{Desk}
+use Rattle.lload_names.specs.declared.names.Letter.TheVariants.{IsDown}
+use Rattle.lload_names.specs.declared.names.Posted.{Posted}
 use Rattle.lload_spec.specs.Lists.{passes}
 use Rattle.lload_spec.specs.Settings.{Settings}
 use Rattle.lload_spec.specs.BadMessages.{is_bad, is_bad_for, is_bad_answer, is_bad_who, is_bad_stray}
@@ -22,9 +25,6 @@ use Rattle.part_laws.proofs.ListLaws.{not_true}
 use Rattle.connection_laws.proofs.Pieces.{marked_up}
 use Rattle.bind_laws.proofs.Lone.{is_lone}
 use Rattle.bind_laws.proofs.Meets.{bind_kind, not_own, bad_other, one_bad}
-use Rattle.lload_names.specs.declared.names.PartName.TheVariants.{Desk}
-use Rattle.lload_names.specs.declared.names.Letter.TheVariants.{IsDown}
-use Rattle.lload_names.specs.declared.names.Posted.{Posted}
 
 -- a row stays with its operation
 abbrev Stays : UpRow → List UpRow → Type 0

@@ -32,14 +32,14 @@ use Rattle.part_spec.specs.BindTurn.{bind_act, bind_rule, link_up, keep_back, an
 use Rattle.part_spec.specs.Gives.{connection_gives, connection_letters}
 use Rattle.part_spec.specs.Share.{succeeds}
 use Rattle.part_spec.specs.Fit.{empty_connection_ledger, step_connection_ledger, fits_connection}
-use Rattle.part_laws.proofs.FitGiving.{fit_turns_give}
 use Rattle.connection_laws.specs.Turns.{connection_event}
+use Rattle.bind_laws.specs.Turns.{BindGives}
+use Rattle.part_laws.proofs.FitGiving.{fit_turns_give}
 use Rattle.connection_laws.proofs.Pieces.{marked_up}
 use Rattle.connection_laws.proofs.Makes.{tail_none}
 use Rattle.connection_laws.proofs.Rules.{gives_some}
 use Rattle.connection_laws.proofs.RegularRowsGive.{abandoned_none}
 use Rattle.connection_laws.proofs.Giving.{GivesTurn, giving_gives, alone_gives, drained_gives, so_gives, event_gives, Quiet, quiet_so, quiet_some, quiet_drained, event_quiet}
-use Rattle.bind_laws.specs.Turns.{BindGives}
 use Rattle.bind_laws.proofs.Lone.{BindStands, no_own}
 use Rattle.bind_laws.proofs.Meets.{Answers, answers}
 use Rattle.bind_laws.proofs.Rules.{message_act, forward_act, leave_act, tick_act, who_names_none}

@@ -16,6 +16,7 @@ use Rattle.lload_names.specs.declared.names.What.TheVariants as what
 use Rattle.lload_names.specs.declared.plans.Place.{Place}
 use Rattle.lload_names.specs.declared.inputs.Input.{Input}
 use Rattle.lload_names.specs.declared.inputs.Input.TheVariants.{Arrive, LinkUp, Message as MessageIn, LetterFrom, Tick, LinkGone, Stall, Flow, Reload}
+use Rattle.lload_names.specs.declared.names.EndWhy.TheVariants.{Unfinished}
 use Rattle.lload_spec.specs.Lists.{passes, agrees}
 use Rattle.lload_spec.specs.Settings.{Settings, is_kind, is_of_kind, place_at}
 use Rattle.lload_spec.specs.Journal.{same_part}
@@ -30,18 +31,17 @@ use Rattle.part_spec.specs.BindTurn.{bind_act, link_up, message, forwards, leave
 use Rattle.part_spec.specs.Turn.{connection_act}
 use Rattle.part_spec.specs.Fit.{ConnectionLedger, empty_connection_ledger, step_connection_ledger, fits_connection, is_unfit, is_forward_of, is_of_its_kind, is_free_for, is_held_for, ledger_behind as behind}
 use Rattle.part_spec.specs.Share.{ConnectionShare}
-use Rattle.lload_spec.proofs.Growth.{left, right}
 use Rattle.part_laws.specs.Turns.{Event, letter_with, made}
+use Rattle.connection_laws.specs.Turns.{connection_event}
+use Rattle.bind_laws.specs.Turns.{BindShares}
+use Rattle.lload_spec.proofs.Growth.{left, right}
 use Rattle.part_laws.proofs.Induction.{through}
 use Rattle.part_laws.proofs.ListLaws.{not_true}
-use Rattle.connection_laws.specs.Turns.{connection_event}
 use Rattle.connection_laws.proofs.Clauses.{UpKeeps, up_keeps_nothing, keeps_turn}
 use Rattle.connection_laws.proofs.Makes.{Makes, turn_of, nothing_made, turn_marks}
 use Rattle.connection_laws.proofs.Rules.{gives_some, fit_by, placed_at, so, without_letter, with_letter, sever_made, event_after, whole_share}
-use Rattle.bind_laws.specs.Turns.{BindShares}
 use Rattle.bind_laws.proofs.Lone.{BindStands, marks_a_bind, bind_through, no_own}
 use Rattle.bind_laws.proofs.Rules.{forward_act, leave_act, makes_link, makes_message, makes_forward, makes_leave, makes_tick}
-use Rattle.lload_names.specs.declared.names.EndWhy.TheVariants.{Unfinished}
 
 -- What is kept behind each turn.
 pub record BindKeeps (s : Settings) (u : ℕ) (before : List Marked) (l : ConnectionLedger) : Type 0 where
@@ -160,16 +160,22 @@ module _ (s : Settings) (u : ℕ) (before : List Marked) (l : ConnectionLedger) 
   input_marks _ f = refl
 
 -- what is kept behind a turn
-after_turn : (s : Settings) (u : ℕ) (before : List Marked) (l : ConnectionLedger) (at : ℕ) (mark : Option Taken) (ws : List What) → BindKeeps s u before l → marks_a_bind mark ≡ true → Makes s before l at mark ws → BindKeeps s u (before ++ turn_of l.state.number at mark ws) (behind (step_connection_ledger s) l (turn_of l.state.number at mark ws))
+pub after_turn : (s : Settings) (u : ℕ) (before : List Marked) (l : ConnectionLedger) (at : ℕ) (mark : Option Taken) (ws : List What) → BindKeeps s u before l → marks_a_bind mark ≡ true → Makes s before l at mark ws → BindKeeps s u (before ++ turn_of l.state.number at mark ws) (behind (step_connection_ledger s) l (turn_of l.state.number at mark ws))
 after_turn s u before l at mark ws h n k =
     record {
       keeps = keeps_turn s u before l (turn_of l.state.number at mark ws) h.keeps k.0 k.1;
       stands = bind_through s u (turn_of l.state.number at mark ws) before l h.keeps.stands k.0 (turn_marks marks_a_bind l.state.number at mark ws refl n) h.stands;
     }
 
+-- what each turn keeps beside it
+pub event_keeps_by : (s : Settings) (u : ℕ) → is_of_kind s BindKind u ≡ true → (P : List Marked → ConnectionLedger → Type 0) → ((before : List Marked) (l : ConnectionLedger) → P before l → BindKeeps s u before l) → ((before : List Marked) (l : ConnectionLedger) (at : ℕ) (mark : Option Taken) (ws : List What) → P before l → marks_a_bind mark ≡ true → Makes s before l at mark ws → P (before ++ turn_of l.state.number at mark ws) (behind (step_connection_ledger s) l (turn_of l.state.number at mark ws))) → (before : List Marked) (l : ConnectionLedger) → P before l → (x : Event) → is_unfit (fits_connection s) l (letter_with x) ≡ false → P (before ++ made (connection_event s) l.state x) (behind (step_connection_ledger s) l (made (connection_event s) l.state x))
+event_keeps_by s u place P keeps after before l p =
+    let h : BindKeeps s u before l = keeps before l p in
+    event_after s P marks_a_bind after before l p refl (λ at later why r. sever_made s u before l h.keeps.stands at later why r) (λ at later input f. (input_marks s u before l h place at later input f, bind_act_is (λ a. Makes s before l at (letter_of input) a.whats) s l.state at input h.stands.kind (input_made s u before l h place at later input f)))
+
 -- each turn keeps it
 pub event_keeps : (s : Settings) (u : ℕ) → is_of_kind s BindKind u ≡ true → (before : List Marked) (l : ConnectionLedger) → BindKeeps s u before l → (x : Event) → is_unfit (fits_connection s) l (letter_with x) ≡ false → BindKeeps s u (before ++ made (connection_event s) l.state x) (behind (step_connection_ledger s) l (made (connection_event s) l.state x))
-event_keeps s u place before l h = event_after s (BindKeeps s u) marks_a_bind (after_turn s u) before l h refl (λ at later why r. sever_made s u before l h.keeps.stands at later why r) (λ at later input f. (input_marks s u before l h place at later input f, bind_act_is (λ a. Makes s before l at (letter_of input) a.whats) s l.state at input h.stands.kind (input_made s u before l h place at later input f)))
+event_keeps s u place before l h = event_keeps_by s u place (BindKeeps s u) (λ b i k. k) (after_turn s u) before l h
 
 pub nothing_kept : (s : Settings) (u : ℕ) → is_of_kind s BindKind u ≡ true → BindKeeps s u [] (empty_connection_ledger s u)
 nothing_kept s u place = record { keeps = up_keeps_nothing s u; stands = record { kind = ap (λ b. if b then BindKind else Regular) place; lone = refl; free = refl; quiet = refl; gone = λ d. refl } }

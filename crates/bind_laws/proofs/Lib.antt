@@ -4,3 +4,9 @@ pub mod Rules
 pub mod BindShare
 pub mod BadMessages
 pub mod BindGiving
+pub mod Sents
+pub mod Gots
+pub mod Tells
+pub mod TellsMore
+pub mod BindSays
+pub mod BindMeets

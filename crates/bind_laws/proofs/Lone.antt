@@ -19,6 +19,8 @@ use Rattle.lload_spec.specs.Settings.{Settings, is_kind}
 use Rattle.lload_spec.specs.Journal.{same_op}
 use Rattle.lload_spec.specs.Identifiers.{Ids, id_for, with_freed}
 use Rattle.lload_spec.specs.OneEach.{begins_with_bind, is_own_bind}
+use Rattle.lload_spec.specs.CausedUp.{has_got}
+use Rattle.lload_spec.specs.Entries.{given_id, is_linked}
 use Rattle.part_spec.specs.Marked.{Marked, Taken}
 use Rattle.part_spec.specs.ConnectionState.{ConnectionState, UpRow, is_bind, is_bind_row, is_under_own, step_connection, connection_behind, behind_message, behind_own, freed_id, put_row, rows_sent}
 use Rattle.part_spec.specs.Fit.{ConnectionLedger, step_connection_ledger, ledger_behind as behind}
@@ -29,8 +31,6 @@ use Rattle.connection_laws.proofs.ConnectionSays.{kind_step}
 use Rattle.connection_laws.proofs.OwnBinds.{own_of, waiting_of}
 use Rattle.connection_laws.proofs.Permits.{Permit, Chain, UpStands, up_stands_more}
 use Rattle.connection_laws.proofs.Apart.{Shrinks, shrinks_message, shrinks_own, freed_all}
-use Rattle.lload_spec.specs.CausedUp.{has_got}
-use Rattle.lload_spec.specs.Entries.{given_id, is_linked}
 use Rattle.connection_laws.proofs.Through.{no_rows}
 
 -- one row at most, of a Bind under an identifier above 0
@@ -163,7 +163,7 @@ module _ (s : Settings) (u : ℕ) (before : List Marked) (l : ConnectionLedger) 
   gone_step mark what.Linked k d = h.gone d
   gone_step mark _ k d = h.gone d
 
-  stands_step : (mark : Option Taken) (w : What) → Permit s before l (marked mark w) ms → marks_a_bind mark ≡ true → BindStands (step_connection s l.state (marked mark w))
+  pub stands_step : (mark : Option Taken) (w : What) → Permit s before l (marked mark w) ms → marks_a_bind mark ≡ true → BindStands (step_connection s l.state (marked mark w))
   stands_step mark w k b =
       record {
         kind = kind_step s (record { part = part; at = at; what = w }) mark l.state w ∙ h.kind;

@@ -17,8 +17,8 @@ use Rattle.part_spec.specs.ConnectionState.{ConnectionState, UpRow, OwnWait, is_
 use Rattle.part_spec.specs.ConnectionTurn.{holder_ended}
 use Rattle.part_spec.specs.BindTurn.{answered, row_answer, who_answer, keep_back, identity_letters}
 use Rattle.part_spec.specs.Share.{succeeds, is_who_awaited}
-use Rattle.lload_spec.proofs.Growth.{left, right}
-use Rattle.part_laws.proofs.ListLaws.{false_by, not_true, same_number}
+use Rattle.lload_spec.proofs.Growth.{left, right, both}
+use Rattle.part_laws.proofs.ListLaws.{false_by, not_true, same_number, or_right}
 use Rattle.bind_laws.proofs.Lone.{is_lone}
 
 -- the kind of a row that is a Bind's
@@ -96,7 +96,7 @@ module _ (s : Settings) (p : ConnectionState) (m : Message) (r : UpRow) (bind : 
   kind = bind_kind r.kind bind
 
   -- a message under its identifier isn't ignored
-  not_ignored : is_under m.id r ≡ true → is_ignored m ≡ false
+  pub not_ignored : is_under m.id r ≡ true → is_ignored m ≡ false
   not_ignored under = false_by (is_ignored m) (λ k. let id : r.id ≡ m.id = same_number r.id m.id (left (r.id == m.id) _ under) in let zero : m.id ≡ 0 = same_number m.id 0 (left (m.id == 0) _ k) in sym (not_true (r.id == 0) above) ∙ ap (λ n. n == 0) (id ∙ zero))
 
   -- a good answer to the Bind is final where it isn't intermediate
@@ -214,3 +214,7 @@ module _ (s : Settings) (p : ConnectionState) (own : p.own_bind ≡ None) (lone 
       by [] h j = absurd (let bad : false ≡ true = j in cc)
       by (r ∷ []) h j = one_waits s p m r (left (is_bind_row r) _ h) (right (is_bind_row r) _ h) (is_under m.id r) refl at (sym (or-false (succeeds m r)) ∙ j)
       by (r ∷ q ∷ rows) h j = absurd (let bad : false ≡ true = h in cc)
+
+  -- a final answer to the Bind without a readable code is bad
+  pub uncoded_bad : (r : UpRow) → p.rows ≡ r ∷ [] → is_bind_row r ≡ true → not (r.id == 0) ≡ true → is_under m.id r ≡ true → is_final Bind m.rest ≡ true → is_none (result_code m.rest) ≡ true → is_bad (message_facts p) m ≡ true
+  uncoded_bad r e b above under final code = bad_is p own m false (not_ignored s p m r b above under) ∙ ap bad_for e ∙ ap (λ c. is_bad_for (message_facts p) m (cond c (Some (open_request r)) None)) under ∙ or_right (not (fits r.kind m.rest)) _ (both (is_bind_row r && is_final Bind m.rest) _ (both (is_bind_row r) _ b final) code)

@@ -31,17 +31,17 @@ use Rattle.part_spec.specs.ConnectionTurn.{giving, goes_down, is_due, retires}
 use Rattle.part_spec.specs.BindTurn.{link_up, message, answered, forwards, leaves, holds, expires, ticks, missed_letters}
 use Rattle.part_spec.specs.Fit.{ConnectionLedger, step_connection_ledger, is_forward_of, is_free_for}
 use Rattle.part_spec.specs.Share.{succeeds, is_who_awaited}
-use Rattle.lload_laws.proofs.ListLaws.{bytes_same}
 use Rattle.lload_spec.proofs.Growth.{left, both}
+use Rattle.lload_laws.proofs.ListLaws.{bytes_same}
 use Rattle.part_laws.proofs.ListLaws.{or_left, or_right, le_same, last_push, same_op_refl}
 use Rattle.connection_laws.proofs.ConnectionSays.{got_next}
 use Rattle.connection_laws.proofs.Permits.{Permit, Chain, UpStands, push_entry}
 use Rattle.connection_laws.proofs.Pieces.{up_entry, marked_up, no_name, implies_true, permit_end, permit_down, permit_up, permit_idle, permit_missed}
 use Rattle.connection_laws.proofs.MorePieces.{permit_got, permit_expired}
 use Rattle.connection_laws.proofs.Makes.{Makes, turn_of, chain_cons, giving_first, gives_own, gives_sent, not_ended, permit_linked}
+use Rattle.connection_laws.proofs.OwnBinds.{is_single}
 use Rattle.bind_laws.proofs.Lone.{BindStands, is_lone}
 use Rattle.bind_laws.proofs.Meets.{Answers, answers, not_own, bad_is_none, success_waits}
-use Rattle.connection_laws.proofs.OwnBinds.{is_single}
 
 -- The rules by their tests.
 abbrev pub message_act : Settings → ConnectionState → Message → Bool → Act

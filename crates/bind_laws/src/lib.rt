@@ -5,7 +5,7 @@
 //! connections of both kinds in `connection_laws`.
 #![tactic(auto)]
 
-ghost use Rattle.bind_laws.specs.Turns.{BindShares, BindGives};
+ghost use Rattle.bind_laws.specs.Turns.{BindShares, BindGives, BindSays, BindMeets};
 
 /// Each list that the turns of a bind connection make keeps the connection's share, up to the first letter that isn't fit.
 pub fn a_bind_connection_keeps_its_share()
@@ -16,4 +16,12 @@ pub fn a_bind_connection_keeps_its_share()
 /// gave.
 pub fn a_bind_connection_gives_what_its_turns_gave()
     ensures gives { BindGives }
+{}
+
+/// What a bind connection's state says behind its list, up to the first letter that isn't fit, is what the list says, where
+/// each Forward that was taken says of its operation what the family says: which identifiers are next and free, which were
+/// given, and which request is open.
+pub fn a_bind_connection_says_what_its_list_says()
+    ensures says { BindSays }
+    ensures meets { BindMeets }
 {}

@@ -9,26 +9,26 @@ use Rattle.lload_names.specs.declared.names.Posted.{Posted}
 use Rattle.lload_names.specs.declared.names.Letter.TheVariants.{IsRetired, IsDown}
 use Rattle.lload_names.specs.declared.names.What.{What}
 use Rattle.lload_names.specs.declared.names.What.TheVariants as what
+use Rattle.lload_names.specs.declared.plans.Place.{Place}
+use Rattle.lload_names.specs.declared.inputs.Input.{Input}
+use Rattle.lload_names.specs.declared.inputs.Effects.{Effects}
 use Rattle.lload_spec.specs.Settings.{Settings, place_at}
+use Rattle.lload_spec.specs.Entries.{is_link_reason}
 use Rattle.part_spec.specs.Marked.{Taken, Marked}
 use Rattle.part_spec.specs.Inputs.{Act, act, nothing, also, entries_of, to, marked_by, letter_of, moment_for, moment_of, letters_alone}
 use Rattle.part_spec.specs.ConnectionState.{ConnectionState, step_connection, is_there}
 use Rattle.part_spec.specs.ConnectionTurn.{ended, giving, retires, goes_down, down_letters, behind_act, is_drained, with_drained, where_so, loss}
 use Rattle.part_spec.specs.Gives.{connection_gives, connection_letters, got_letters}
+use Rattle.part_spec.specs.Turn.{connection_sever, connection_act}
+use Rattle.part_spec.specs.Fit.{ledger_behind as behind}
+use Rattle.part_laws.specs.Turns.{Event, Comes, Severed, made, no_effects}
+use Rattle.connection_laws.specs.Turns.{connection_event}
+use Rattle.lload_spec.proofs.Growth.{left, right}
 use Rattle.part_laws.proofs.ListLaws.{le_max}
+use Rattle.part_laws.proofs.Giving.{gives_more}
 use Rattle.connection_laws.proofs.ConnectionSays.{number_step}
 use Rattle.connection_laws.proofs.Pieces.{up_entry, marked_up}
 use Rattle.connection_laws.proofs.Makes.{turn_of}
-use Rattle.lload_names.specs.declared.plans.Place.{Place}
-use Rattle.lload_names.specs.declared.inputs.Input.{Input}
-use Rattle.lload_names.specs.declared.inputs.Effects.{Effects}
-use Rattle.lload_spec.specs.Entries.{is_link_reason}
-use Rattle.part_spec.specs.Turn.{connection_sever, connection_act}
-use Rattle.part_spec.specs.Fit.{ledger_behind as behind}
-use Rattle.lload_spec.proofs.Growth.{left, right}
-use Rattle.part_laws.specs.Turns.{Event, Comes, Severed, made, no_effects}
-use Rattle.part_laws.proofs.Giving.{gives_more}
-use Rattle.connection_laws.specs.Turns.{connection_event}
 use Rattle.connection_laws.proofs.Through.{steps_are, turn_more, no_rows}
 
 -- What a turn's entries give from a state.

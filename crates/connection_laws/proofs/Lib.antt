@@ -8,11 +8,13 @@ pub mod MorePieces
 pub mod Makes
 pub mod Through
 pub mod Rules
+pub mod Closings
 pub mod Giving
 pub mod Rows
 pub mod Regular
 pub mod Apart
 pub mod ApartTurns
+pub mod Given
 pub mod RegularLetters
 pub mod RegularTurns
 pub mod RegularTicks

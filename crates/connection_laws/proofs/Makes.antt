@@ -2,6 +2,7 @@
 use Rattle.std.proofs.Common.{◌≡◌, ℕ, Bool, true, false, ◌==◌, ◌&&◌, ◌||◌, not, List, [], ◌∷◌, ◌++◌, refl, ap, ◌∙◌, sym, subst}
 use Rattle.std.specs.Prelude.{Option, None, nat_le, nat_lt, map, is_some}
 use Rattle.std.specs.List.{list_any, list_all}
+use Rattle.std.proofs.Math.Bool.{or-false}
 use Rattle.ldap_spec.specs.Bodies.{abandon}
 use Rattle.lload_names.specs.declared.names.Entry.{Entry}
 use Rattle.lload_names.specs.declared.names.OpName.{OpName}
@@ -13,25 +14,24 @@ use Rattle.lload_names.specs.declared.names.What.TheVariants as what
 use Rattle.lload_spec.specs.Lists.{agrees, implies, first_passes}
 use Rattle.lload_spec.specs.Settings.{Settings, place_at}
 use Rattle.lload_spec.specs.Entries.{is_up, is_retired, is_down_by, is_own, same_why, is_down}
+use Rattle.lload_spec.specs.Identifiers.{id_for}
+use Rattle.lload_spec.specs.OneEach.{begins_with_bind, is_own_bind}
+use Rattle.lload_spec.specs.Strict.{is_empty}
 use Rattle.part_spec.specs.Marks.{has_connection_mark}
 use Rattle.part_spec.specs.Inputs.{entries_of, marked_by}
 use Rattle.part_spec.specs.ConnectionState.{is_stopped, is_first_bind}
 use Rattle.part_spec.specs.ConnectionTurn.{giving}
-use Rattle.lload_spec.specs.Identifiers.{id_for}
-use Rattle.connection_laws.proofs.Pausings.{comes_rightly}
 use Rattle.part_spec.specs.Fit.{ConnectionLedger, step_connection_ledger, is_forward_of}
 use Rattle.part_spec.specs.Share.{has_reason, is_sent_once}
 use Rattle.part_spec.specs.Marked.{Marked, Taken, entries}
 use Rattle.lload_spec.proofs.Growth.{both}
 use Rattle.part_laws.proofs.ListLaws.{le_same}
+use Rattle.connection_laws.proofs.Pausings.{comes_rightly}
 use Rattle.connection_laws.proofs.OwnBinds.{is_second_bind}
 use Rattle.connection_laws.proofs.Permits.{Chain, ends_for, Permit, UpStands}
 use Rattle.connection_laws.proofs.Clauses.{Opens}
 use Rattle.connection_laws.proofs.Pieces.{up_entry, marked_up, permit_down, permit_retired, no_name}
 use Rattle.connection_laws.proofs.MorePieces.{permit_sent, permit_own}
-use Rattle.std.proofs.Math.Bool.{or-false}
-use Rattle.lload_spec.specs.OneEach.{begins_with_bind, is_own_bind}
-use Rattle.lload_spec.specs.Strict.{is_empty}
 
 -- the entries of a turn
 abbrev pub turn_of : ℕ → ℕ → Option Taken → List What → List Marked

@@ -10,22 +10,22 @@ use Rattle.lload_names.specs.declared.names.EndWhy.TheVariants.{OwnBind as OwnBi
 use Rattle.lload_names.specs.declared.names.What.{What}
 use Rattle.lload_names.specs.declared.names.What.TheVariants as what
 use Rattle.lload_names.specs.declared.plans.Place.{Place}
+use Rattle.lload_names.specs.declared.inputs.Input.{Input}
+use Rattle.lload_names.specs.declared.inputs.Effects.{Effects}
 use Rattle.lload_spec.specs.Settings.{Settings, is_kind, is_of_kind, place_at}
 use Rattle.lload_spec.specs.Entries.{is_link_reason, is_down_by, same_why}
 use Rattle.lload_spec.specs.OneEach.{is_named_once}
+use Rattle.lload_spec.specs.Answers.{sendings}
 use Rattle.part_spec.specs.Marked.{Marked, Taken, entries}
-use Rattle.lload_names.specs.declared.inputs.Input.{Input}
-use Rattle.lload_names.specs.declared.inputs.Effects.{Effects}
 use Rattle.part_spec.specs.Inputs.{marked_by, Act, nothing, letter_of, moment_for, moment_of}
 use Rattle.part_spec.specs.ConnectionState.{empty_connection, step_connection, is_there}
 use Rattle.part_spec.specs.ConnectionTurn.{goes_down, where_so, is_drained, with_drained}
 use Rattle.part_spec.specs.Turn.{connection_sever, connection_act}
 use Rattle.part_spec.specs.Fit.{ConnectionLedger, step_connection_ledger, fits_connection, is_unfit, ledger_behind as behind}
 use Rattle.part_spec.specs.Share.{each_by_state, has_due_messages, has_reason, ConnectionShare}
-use Rattle.lload_spec.proofs.Growth.{left, right, both}
 use Rattle.part_laws.specs.Turns.{Event, Comes, Severed, letter_with, made, no_effects}
 use Rattle.connection_laws.specs.Turns.{connection_event}
-use Rattle.lload_spec.specs.Answers.{sendings}
+use Rattle.lload_spec.proofs.Growth.{left, right, both}
 use Rattle.lload_laws.proofs.ListLaws.{all_always}
 use Rattle.part_laws.proofs.ListLaws.{places_both, not_true, le_max}
 use Rattle.connection_laws.proofs.Permits.{ends_for, UpStands}

@@ -3,6 +3,7 @@ use Rattle.std.proofs.Common.{◌≡◌, ℕ, Bool, true, false, ◌==◌, ◌&&
 use Rattle.std.specs.Prelude.{Option, None, map, nat_le}
 use Rattle.std.specs.List.{list_any}
 use Rattle.std.proofs.lemmas.List.{map-append}
+use Rattle.std.proofs.lemmas.Bool.Decides.{nat_tests}
 use Rattle.lload_names.specs.declared.names.Entry.{Entry}
 use Rattle.lload_names.specs.declared.names.EndWhy.TheVariants.{Drained}
 use Rattle.lload_names.specs.declared.names.PartName.TheVariants.{Desk, Up as Connection}
@@ -25,7 +26,6 @@ use Rattle.connection_laws.proofs.ConnectionSays.{number_step, kind_step}
 use Rattle.connection_laws.proofs.Permits.{Chain, UpStands, stands_through, state_through}
 use Rattle.connection_laws.proofs.Pieces.{up_entry, marked_up, chain_append, permit_down}
 use Rattle.connection_laws.proofs.Makes.{Makes, turn_of}
-use Rattle.std.proofs.lemmas.Bool.Decides.{nat_tests}
 
 -- What stays through a turn.
 

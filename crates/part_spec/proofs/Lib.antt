@@ -1,4 +1,4 @@
 pub mod Folds
-mod Joins
+pub mod Joins
 mod Fits
 mod Tested
