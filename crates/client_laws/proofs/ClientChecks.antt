@@ -44,7 +44,7 @@ use Rattle.part_laws.proofs.ListLaws.{places_grow, first_stays, eqb_same}
 use Rattle.client_laws.specs.Turns.{client_event, ClientChecks}
 use Rattle.client_laws.proofs.ClientTurns.{client_turn_of}
 use Rattle.client_laws.proofs.ClientClauses.{unmarked_entries}
-use Rattle.client_laws.proofs.ClientKinds.{is_answering, answered_kind}
+use Rattle.client_laws.proofs.ClientKinds.{has_its_kind, answered_kind}
 
 -- what stands behind an In is what its check wants
 module _ (u at : ℕ) (m : Message) where
@@ -56,7 +56,7 @@ module _ (u at : ℕ) (m : Message) where
   answer_first which None h = absurd (let bad : false ≡ true = h in cc)
   answer_first which (Some kind) h = both (m.id == m.id) _ (eqb_same m.id) (bytes_same (cancel_answer kind which))
 
-  followed : (k : Check) → (is_answering k ≡ true → is_some (kind_of m.rest) ≡ true) → is_followed_up m (entries_of (Client u) at (whats_by m k)) k ≡ true
+  followed : (k : Check) → (has_its_kind k ≡ true → is_some (kind_of m.rest) ≡ true) → is_followed_up m (entries_of (Client u) at (whats_by m k)) k ≡ true
   followed (Ends why) f = eqb_same (why_number why)
   followed Unbinds f = refl
   followed (Abandons id) f = refl

@@ -132,7 +132,7 @@ pub record Says (c : ℕ) (place : List Entry) (p : ClientState) : Type 0 where
 some_push : (t : Entry → Bool) (place : List Entry) (e : Entry) (b : Bool) → b ≡ list_any t place → (b || t e) ≡ list_any t (place ++ e ∷ [])
 some_push t place e b h = ap (λ x. x || t e) h ∙ ap (λ x. list_any t place || x) (sym (or-false (t e))) ∙ sym (list_any-append t place (e ∷ []))
 
-says_more : (s : Settings) (c : ℕ) (place : List Entry) (p : ClientState) (m : Marked) → Says c place p → Says c (place ++ m.entry ∷ []) (step_client s p m)
+pub says_more : (s : Settings) (c : ℕ) (place : List Entry) (p : ClientState) (m : Marked) → Says c place p → Says c (place ++ m.entry ∷ []) (step_client s p m)
 says_more s c place p m h =
     record {
       number = number_step s m.entry.at m.mark p m.entry.what ∙ h.number;

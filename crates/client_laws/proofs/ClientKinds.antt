@@ -9,7 +9,7 @@ use Rattle.lload_names.specs.declared.names.OpKind.{OpKind}
 use Rattle.lload_names.specs.declared.names.EndWhy.TheVariants.{ZeroId, IdInUse}
 use Rattle.lload_spec.specs.Settings.{Settings}
 use Rattle.lload_spec.specs.Entries.{makes_operation}
-use Rattle.lload_spec.specs.FirstCheck.{Check, Ends, Refuses, Answers, Cancels, check_request, is_in_use}
+use Rattle.lload_spec.specs.FirstCheck.{Check, Ends, Refuses, Answers, Cancels, GoesOn, check_request, is_in_use}
 use Rattle.part_spec.specs.ClientState.{ClientState, facts_of, check_at}
 use Rattle.part_laws.proofs.ListLaws.{same_number}
 
@@ -58,17 +58,18 @@ request_kind (t ∷ n ∷ xs) h = by (is_tag t) (length_of (take (length_size n)
     by true (Some size) k = whole size (nat_le (suc (length_size n) + size) (length (t ∷ n ∷ xs))) k
     by false o k = absurd (let bad : false ≡ true = k in cc)
 
--- whether a check puts an Out behind a request
-abbrev pub is_answering : Check → Bool
-is_answering (Refuses which) = true
-is_answering (Answers which) = true
-is_answering (Cancels id kind) = true
-is_answering _ = false
+-- whether a check is of a request that has a kind: it is answered, or goes on
+abbrev pub has_its_kind : Check → Bool
+has_its_kind (Refuses which) = true
+has_its_kind (Answers which) = true
+has_its_kind (Cancels id kind) = true
+has_its_kind GoesOn = true
+has_its_kind _ = false
 
-pub answered_kind : (s : Settings) (p : ClientState) (m : Message) → is_answering (check_at s p m) ≡ true → is_some (kind_of m.rest) ≡ true
+pub answered_kind : (s : Settings) (p : ClientState) (m : Message) → has_its_kind (check_at s p m) ≡ true → is_some (kind_of m.rest) ≡ true
 answered_kind s p m h = by (m.id == 0) (makes_operation m && is_in_use (facts_of p) m.id) (request m.rest) refl h
   where
-    by : (z b : Bool) (o : Option Request) → request m.rest ≡ o → is_answering (if z then Ends ZeroId else if b then Ends IdInUse else check_request s (facts_of p) m o) ≡ true → is_some (kind_of m.rest) ≡ true
+    by : (z b : Bool) (o : Option Request) → request m.rest ≡ o → has_its_kind (if z then Ends ZeroId else if b then Ends IdInUse else check_request s (facts_of p) m o) ≡ true → is_some (kind_of m.rest) ≡ true
     by true b o e k = absurd (let bad : false ≡ true = k in cc)
     by false true o e k = absurd (let bad : false ≡ true = k in cc)
     by false false None e k = absurd (let bad : false ≡ true = k in cc)

@@ -1,0 +1,14 @@
+//! A client's share of the promises that needs fit letters: what each list of a client's turns keeps, up to the first letter
+//! that isn't fit.
+//!
+//! The functions have empty bodies, and their contracts are the laws. A layer above may rely on them for each list that a
+//! client's turns make.
+#![tactic(auto)]
+
+ghost use Rattle.client_answer_laws.specs.Clauses.{ClientLife};
+
+/// Up to the first letter that isn't fit, a client's list is one of a client's life: each choice is the first of an operation
+/// of its own, no message comes while the client's part holds, and the notice stands only before an end that it is sent for.
+pub fn a_client_lives_its_life()
+    ensures life { ClientLife }
+{}
