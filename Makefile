@@ -32,6 +32,7 @@ bench:
 	@cd crates/tier_bench && rt run -- measure
 	@cd crates/tables_bench && rt run -- measure
 	@cd crates/conf_bench && rt run -- measure
+	@cd crates/controls_bench && rt run -- measure
 
 man:
 	@man -l man/lloadd.8

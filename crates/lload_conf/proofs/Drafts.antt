@@ -1,33 +1,40 @@
 -- The reader's draft stands for the lines so far.
 use Rattle.std.proofs.Common.{◌≡◌, ℕ, ◌+◌, ◌==◌, ◌&&◌, ◌||◌, not, Bool, true, false, cond, List, [], ◌∷◌, ◌++◌, length, refl, ap, sym, ◌∙◌, arith, find, sum_by, append_assoc, subst, append-nil, length-append}
 use Rattle.std.specs.Prelude.{Option, Some, None, is_some, unwrap_or, option_map, codes, pos}
+use Rattle.std.specs.List.{list_any}
 use Rattle.std.specs.Option.{option_or, option_map_or, option_and_then}
-use Rattle.std.proofs.lemmas.List.Folds.{find-append}
+use Rattle.std.proofs.lemmas.List.Folds.{find-append, list_any-append}
 use Rattle.std.proofs.lemmas.List.Sums.{fold-append, sum_by-append}
 use Rattle.std.proofs.lemmas.List.Concat.{flat_map-append}
 use Rattle.lload_names.specs.Plans.{backends_of}
 use Rattle.lload_names.specs.declared.plans.BackendPlan.{BackendPlan}
 use Rattle.lload_names.specs.declared.plans.TierPlan.{TierPlan}
-use Rattle.lload_conf.specs.Configuration.{before_of, count_under, line_fault, places_here}
+use Rattle.restrictions.specs.Table.{with_exop, with_control}
+use Rattle.restrictions.specs.declared.table.Restrictions.{Restrictions}
+use Rattle.lload_conf.specs.Configuration.{before_of, count_under, is_restricted, line_fault, places_here}
 use Rattle.lload_conf.specs.Draft.{before_draft, bind_of, draft_fault, finished, is, stood_in, whole_plan, with_backend, with_entry, with_words, empty_draft}
 use Rattle.lload_conf.specs.Faults.{entry_fault, lacks_tier, may_stand_again, passes_limit, places_of}
 use Rattle.lload_conf.specs.Line.{Words, argument_of, arguments_of, arguments_under, entry_of, is_of, rank, number_of}
-use Rattle.lload_conf.specs.Settings.{backend_of, config_of, host_of, hosts_here, hosts_of, in_last, kind_of, number_under, own_bind_of, tiers_of, with_line}
-use Rattle.lload_conf.specs.Table.{Entry, client_max_pending, client_limit, upstream_limit, iotimeout, io_threads, timeout}
-use Rattle.lload_conf.specs.Values.{number_or_default}
+use Rattle.lload_conf.specs.Settings.{action_of, oid_of, restricted_by, seconds_under, unrestricted, with_restriction, backend_of, config_of, host_of, hosts_here, hosts_of, in_last, kind_of, number_under, own_bind_of, tiers_of, with_line}
+use Rattle.lload_conf.specs.Table.{Entry, client_max_pending, client_max_unsent, write_coherence, client_limit, upstream_limit, iotimeout, io_threads, timeout}
+use Rattle.lload_conf.specs.Values.{number_or_default, seconds_or_default}
 use Rattle.lload_conf.specs.declared.config.Host.{Host}
 use Rattle.lload_conf.specs.declared.draft.Draft.{Draft}
 use Rattle.lload_conf.specs.declared.line.Before.{Before}
 use Rattle.lload_conf.specs.declared.table.Directive.{Directive}
-use Rattle.lload_conf.specs.declared.table.Directive.TheVariants.{BindConf, Tier, BackendServer, ClientMaxPending, ClientLimit, UpstreamLimit, IoTimeout, IoThreads, Feature, Noted, LeftOut}
+use Rattle.lload_conf.specs.declared.table.Directive.TheVariants.{BindConf, Tier, BackendServer, ClientMaxPending, ClientLimit, UpstreamLimit, IoTimeout, IoThreads, Feature, WriteCoherence, RestrictExop, RestrictControl, ClientMaxUnsent, Noted, LeftOut}
 
 -- the draft of some lines
 pub record Drafted (lines : List Words) (draft : Draft) : Type 0 where
+  pub proxyauthz : draft.proxyauthz ≡ list_any (is_of Feature) lines
   pub bind : draft.bind ≡ option_map bind_of (arguments_under BindConf lines)
   pub client_max_pending : draft.client_max_pending ≡ number_under ClientMaxPending client_max_pending lines
+  pub client_max_unsent : draft.client_max_unsent ≡ number_under ClientMaxUnsent client_max_unsent lines
   pub client_limit : draft.client_limit ≡ number_under ClientLimit client_limit lines
   pub upstream_limit : draft.upstream_limit ≡ number_under UpstreamLimit upstream_limit lines
   pub iotimeout : draft.iotimeout ≡ number_under IoTimeout iotimeout lines
+  pub write_coherence : draft.write_coherence ≡ seconds_under lines
+  pub restrictions : draft.restrictions ≡ restricted_by lines
   pub io_threads : draft.io_threads ≡ number_under IoThreads io_threads lines
   pub plan : whole_plan draft.earlier draft.last ≡ tiers_of lines
   pub first : draft.last ≡ None → (draft.earlier ≡ []) × (draft.tiers ≡ 0)
@@ -54,14 +61,18 @@ stood-same lines draft h ClientLimit = is_some-map (λ words. number_or_default 
 stood-same lines draft h UpstreamLimit = is_some-map (λ words. number_or_default upstream_limit (argument_of words)) (arguments_under UpstreamLimit lines) draft.upstream_limit h.upstream_limit
 stood-same lines draft h IoTimeout = is_some-map (λ words. number_or_default iotimeout (argument_of words)) (arguments_under IoTimeout lines) draft.iotimeout h.iotimeout
 stood-same lines draft h IoThreads = is_some-map (λ words. number_or_default io_threads (argument_of words)) (arguments_under IoThreads lines) draft.io_threads h.io_threads
+stood-same lines draft h WriteCoherence = is_some-map (λ words. seconds_or_default (argument_of words)) (arguments_under WriteCoherence lines) draft.write_coherence h.write_coherence
+stood-same lines draft h ClientMaxUnsent = is_some-map (λ words. number_or_default client_max_unsent (argument_of words)) (arguments_under ClientMaxUnsent lines) draft.client_max_unsent h.client_max_unsent
+stood-same lines draft h RestrictExop = and-false (is_some (arguments_under RestrictExop lines))
+stood-same lines draft h RestrictControl = and-false (is_some (arguments_under RestrictControl lines))
 stood-same lines draft h Tier = and-false (is_some (arguments_under Tier lines))
 stood-same lines draft h BackendServer = and-false (is_some (arguments_under BackendServer lines))
 stood-same lines draft h Feature = and-false (is_some (arguments_under Feature lines))
 stood-same lines draft h Noted = and-false (is_some (arguments_under Noted lines))
 stood-same lines draft h LeftOut = and-false (is_some (arguments_under LeftOut lines))
 
-before-same : (lines : List Words) (draft : Draft) → Drafted lines draft → (d : Directive) → before_draft draft d ≡ before_of lines d
-before-same lines draft h d = λ i. record { stood = stood-same lines draft h d i; tiers = h.tiers i; backends = h.backends i; places = h.places i }
+before-same : (lines : List Words) (draft : Draft) → Drafted lines draft → (d : Directive) (words : Words) → before_draft draft d words ≡ before_of lines d words
+before-same lines draft h d words = λ i. record { stood = stood-same lines draft h d i || is_restricted d words (h.restrictions i); tiers = h.tiers i; backends = h.backends i; places = h.places i }
 
 -- one answer of an option, by two functions that agree
 agree : {A B : Type 0} (f g : A → B) (o : Option A) (x : B) → ((a : A) → f a ≡ g a) → option_map_or f o x ≡ option_map_or g o x
@@ -70,7 +81,7 @@ agree f g (Some a) x same = same a
 
 -- a line's fault by the draft is its fault behind the lines
 pub fault-same : (lines : List Words) (draft : Draft) (line : Words) → Drafted lines draft → draft_fault draft line ≡ line_fault lines line
-fault-same lines draft line h = agree (λ entry. entry_fault (before_draft draft entry.0) entry (arguments_of line)) (λ entry. entry_fault (before_of lines entry.0) entry (arguments_of line)) (entry_of line) (Some 3) (λ entry. ap (λ before. entry_fault before entry (arguments_of line)) (before-same lines draft h entry.0))
+fault-same lines draft line h = agree (λ entry. entry_fault (before_draft draft entry.0 (arguments_of line)) entry (arguments_of line)) (λ entry. entry_fault (before_of lines entry.0 (arguments_of line)) entry (arguments_of line)) (entry_of line) (Some 3) (λ entry. ap (λ before. entry_fault before entry (arguments_of line)) (before-same lines draft h entry.0 (arguments_of line)))
 
 -- a line of another directive
 under-other : (e : Directive) (lines : List Words) (line : Words) → is_of e line ≡ false → arguments_under e (lines ++ line ∷ []) ≡ arguments_under e lines
@@ -136,6 +147,17 @@ neither : (a b : Bool) → (a || b) ≡ false → b ≡ false
 neither true b h = cc
 neither false b h = h
 
+nor_first : (a b : Bool) → (a || b) ≡ false → a ≡ false
+nor_first true b h = cc
+nor_first false b h = refl
+
+-- neither its directive stood, nor a restriction of its OID
+pub stood-not : (draft : Draft) (d : Directive) (words : Words) → Clear (before_draft draft d words) d words → stood_in draft d ≡ false
+stood-not draft d words free = nor_first (stood_in draft d) (is_restricted d words draft.restrictions) free.stood
+
+pub restricted-not : (draft : Draft) (d : Directive) (words : Words) → Clear (before_draft draft d words) d words → is_restricted d words draft.restrictions ≡ false
+restricted-not draft d words free = neither (stood_in draft d) (is_restricted d words draft.restrictions) free.stood
+
 pub clear : (before : Before) (entry : Entry) (words : Words) → entry_fault before entry words ≡ None → Clear before entry.0 words
 clear before entry words none =
     let five = no-fault _ 4 _ none in
@@ -178,6 +200,14 @@ clear-iotimeout draft _ stood same = cc
 clear-threads : (draft : Draft) (d : Directive) → stood_in draft d ≡ false → is d IoThreads ≡ true → is_some draft.io_threads ≡ false
 clear-threads draft IoThreads stood same = stood
 clear-threads draft _ stood same = cc
+
+clear-coherence : (draft : Draft) (d : Directive) → stood_in draft d ≡ false → is d WriteCoherence ≡ true → is_some draft.write_coherence ≡ false
+clear-coherence draft WriteCoherence stood same = stood
+clear-coherence draft _ stood same = cc
+
+clear-unsent : (draft : Draft) (d : Directive) → stood_in draft d ≡ false → is d ClientMaxUnsent ≡ true → is_some draft.client_max_unsent ≡ false
+clear-unsent draft ClientMaxUnsent stood same = stood
+clear-unsent draft _ stood same = cc
 
 -- a backend has a tier
 clear-tier : (before : Before) (d : Directive) → lacks_tier before d ≡ false → is d BackendServer ≡ true → (before.tiers == 0) ≡ false
@@ -258,26 +288,48 @@ places-more lines line n b is' same = flagged b ∙ sym (sum_by-append places_he
     flagged true = omega (arith, same)
     flagged false = omega (arith, same)
 
+-- a feature, and restrictions, with one line more
+feature-more : (lines : List Words) (line : Words) (on b : Bool) → is_of Feature line ≡ b → on ≡ list_any (is_of Feature) lines → cond b true on ≡ list_any (is_of Feature) (lines ++ line ∷ [])
+feature-more lines line on b is' same = flagged b (list_any (is_of Feature) lines) same ∙ sym (list_any-append (is_of Feature) lines (line ∷ []) ∙ ap (λ t. list_any (is_of Feature) lines || (t || false)) is')
+  where
+    flagged : (t any : Bool) → on ≡ any → cond t true on ≡ (any || (t || false))
+    flagged true true e = refl
+    flagged true false e = refl
+    flagged false true e = e
+    flagged false false e = e
+
+restrictions-more : (lines : List Words) (line : Words) (table : Restrictions) (a b : Bool) → is_of RestrictExop line ≡ a → is_of RestrictControl line ≡ b → table ≡ restricted_by lines →
+    cond a (with_exop (oid_of (arguments_of line)) (action_of (arguments_of line)) table) (cond b (with_control (oid_of (arguments_of line)) (action_of (arguments_of line)) table) table) ≡ restricted_by (lines ++ line ∷ [])
+restrictions-more lines line table a b is-exop is-control same = ap (made a b) same ∙ sym (fold-append with_restriction unrestricted lines (line ∷ []) ∙ (ap (λ a'. made a' (is_of RestrictControl line) (restricted_by lines)) is-exop ∙ ap (λ b'. made a b' (restricted_by lines)) is-control))
+  where
+    made : Bool → Bool → Restrictions → Restrictions
+    made a' b' t = cond a' (with_exop (oid_of (arguments_of line)) (action_of (arguments_of line)) t) (cond b' (with_control (oid_of (arguments_of line)) (action_of (arguments_of line)) t) t)
+
 -- a line without a fault
-drafted-more : (lines : List Words) (draft : Draft) (line : Words) (entry : Entry) → entry_of line ≡ Some entry → entry_fault (before_draft draft entry.0) entry (arguments_of line) ≡ None → Drafted lines draft → Drafted (lines ++ line ∷ []) (with_entry draft entry.0 (arguments_of line))
+drafted-more : (lines : List Words) (draft : Draft) (line : Words) (entry : Entry) → entry_of line ≡ Some entry → entry_fault (before_draft draft entry.0 (arguments_of line)) entry (arguments_of line) ≡ None → Drafted lines draft → Drafted (lines ++ line ∷ []) (with_entry draft entry.0 (arguments_of line))
 drafted-more lines draft line entry known none h =
     let d = entry.0 in
     let words = arguments_of line in
     let at : (e : Directive) → is_of e line ≡ is d e = λ e. ap (λ (o : Option Entry). option_map_or (λ en. rank en.0 == rank e) o false) known in
-    let no = clear (before_draft draft d) entry words none in
+    let no = clear (before_draft draft d words) entry words none in
+    let stood = stood-not draft d words no in
     let backend : BackendPlan = backend_of (length draft.hosts + 1) words in
     let tier : TierPlan = record { kind = kind_of words; backends = [] } in
     let plan = plan-more lines line draft (is d Tier) (is d BackendServer) h (at Tier) (at BackendServer) in
     record {
-      bind = once BindConf bind_of lines line draft.bind (is d BindConf) (at BindConf) h.bind (clear-bind draft d no.stood);
-      client_max_pending = once ClientMaxPending (λ ws. number_or_default client_max_pending (argument_of ws)) lines line draft.client_max_pending (is d ClientMaxPending) (at ClientMaxPending) h.client_max_pending (clear-pending draft d no.stood);
-      client_limit = once ClientLimit (λ ws. number_or_default client_limit (argument_of ws)) lines line draft.client_limit (is d ClientLimit) (at ClientLimit) h.client_limit (clear-client draft d no.stood);
-      upstream_limit = once UpstreamLimit (λ ws. number_or_default upstream_limit (argument_of ws)) lines line draft.upstream_limit (is d UpstreamLimit) (at UpstreamLimit) h.upstream_limit (clear-upstream draft d no.stood);
-      iotimeout = once IoTimeout (λ ws. number_or_default iotimeout (argument_of ws)) lines line draft.iotimeout (is d IoTimeout) (at IoTimeout) h.iotimeout (clear-iotimeout draft d no.stood);
-      io_threads = once IoThreads (λ ws. number_or_default io_threads (argument_of ws)) lines line draft.io_threads (is d IoThreads) (at IoThreads) h.io_threads (clear-threads draft d no.stood);
+      proxyauthz = feature-more lines line draft.proxyauthz (is d Feature) (at Feature) h.proxyauthz;
+      bind = once BindConf bind_of lines line draft.bind (is d BindConf) (at BindConf) h.bind (clear-bind draft d stood);
+      client_max_pending = once ClientMaxPending (λ ws. number_or_default client_max_pending (argument_of ws)) lines line draft.client_max_pending (is d ClientMaxPending) (at ClientMaxPending) h.client_max_pending (clear-pending draft d stood);
+      client_max_unsent = once ClientMaxUnsent (λ ws. number_or_default client_max_unsent (argument_of ws)) lines line draft.client_max_unsent (is d ClientMaxUnsent) (at ClientMaxUnsent) h.client_max_unsent (clear-unsent draft d stood);
+      client_limit = once ClientLimit (λ ws. number_or_default client_limit (argument_of ws)) lines line draft.client_limit (is d ClientLimit) (at ClientLimit) h.client_limit (clear-client draft d stood);
+      upstream_limit = once UpstreamLimit (λ ws. number_or_default upstream_limit (argument_of ws)) lines line draft.upstream_limit (is d UpstreamLimit) (at UpstreamLimit) h.upstream_limit (clear-upstream draft d stood);
+      iotimeout = once IoTimeout (λ ws. number_or_default iotimeout (argument_of ws)) lines line draft.iotimeout (is d IoTimeout) (at IoTimeout) h.iotimeout (clear-iotimeout draft d stood);
+      write_coherence = once WriteCoherence (λ ws. seconds_or_default (argument_of ws)) lines line draft.write_coherence (is d WriteCoherence) (at WriteCoherence) h.write_coherence (clear-coherence draft d stood);
+      restrictions = restrictions-more lines line draft.restrictions (is d RestrictExop) (is d RestrictControl) (at RestrictExop) (at RestrictControl) h.restrictions;
+      io_threads = once IoThreads (λ ws. number_or_default io_threads (argument_of ws)) lines line draft.io_threads (is d IoThreads) (at IoThreads) h.io_threads (clear-threads draft d stood);
       plan = plan;
       first = first-more draft tier backend (is d Tier) (is d BackendServer) h.first;
-      numbered = ap (λ ts. length (backends_of ts)) (sym plan) ∙ numbered-more draft tier backend (host_of words) (is d Tier) (is d BackendServer) refl (λ e. (h.first e).1) (tier-alone d) (clear-tier (before_draft draft d) d no.tier) (ap (λ ts. length (backends_of ts)) h.plan ∙ h.numbered);
+      numbered = ap (λ ts. length (backends_of ts)) (sym plan) ∙ numbered-more draft tier backend (host_of words) (is d Tier) (is d BackendServer) refl (λ e. (h.first e).1) (tier-alone d) (clear-tier (before_draft draft d words) d no.tier) (ap (λ ts. length (backends_of ts)) h.plan ∙ h.numbered);
       hosts = hosts-more lines line draft.hosts (is d BackendServer) (at BackendServer) h.hosts;
       tiers = count-more Tier lines line draft.tiers (is d Tier) (at Tier) h.tiers;
       backends = length-more draft.hosts (host_of words) (is d BackendServer) ∙ count-more BackendServer lines line (length draft.hosts) (is d BackendServer) (at BackendServer) h.backends;
@@ -288,13 +340,13 @@ drafted-more lines draft line entry known none h =
 pub taken-more : (lines : List Words) (draft after : Draft) (line : Words) → Drafted lines draft → draft_fault draft line ≡ None → after ≡ with_words draft line → Drafted (lines ++ line ∷ []) after
 taken-more lines draft after line h none is' = subst (Drafted (lines ++ line ∷ [])) (sym is') (by-entry (entry_of line) refl none)
   where
-    by-entry : (o : Option Entry) → entry_of line ≡ o → option_map_or (λ entry. entry_fault (before_draft draft entry.0) entry (arguments_of line)) o (Some 3) ≡ None → Drafted (lines ++ line ∷ []) (option_map_or (λ entry. with_entry draft entry.0 (arguments_of line)) o draft)
+    by-entry : (o : Option Entry) → entry_of line ≡ o → option_map_or (λ entry. entry_fault (before_draft draft entry.0 (arguments_of line)) entry (arguments_of line)) o (Some 3) ≡ None → Drafted (lines ++ line ∷ []) (option_map_or (λ entry. with_entry draft entry.0 (arguments_of line)) o draft)
     by-entry None known none' = cc
     by-entry (Some entry) known none' = drafted-more lines draft line entry known none' h
 
 -- no lines
 pub drafted-none : Drafted [] empty_draft
-drafted-none = record { bind = refl; client_max_pending = refl; client_limit = refl; upstream_limit = refl; iotimeout = refl; io_threads = refl; plan = refl; first = λ e. (refl, refl); numbered = refl; hosts = refl; tiers = refl; backends = refl; places = refl }
+drafted-none = record { proxyauthz = refl; bind = refl; client_max_pending = refl; client_max_unsent = refl; client_limit = refl; upstream_limit = refl; iotimeout = refl; write_coherence = refl; restrictions = refl; io_threads = refl; plan = refl; first = λ e. (refl, refl); numbered = refl; hosts = refl; tiers = refl; backends = refl; places = refl }
 
 -- the configuration of the draft is that of the lines
 own_bind-same : (o : Option Words) → option_and_then (λ bind. bind.own_bind) (option_map bind_of o) ≡ option_and_then own_bind_of o
@@ -307,15 +359,17 @@ timeout-same (Some words) = refl
 
 pub finished-same : (lines : List Words) (draft : Draft) → Drafted lines draft → finished draft ≡ config_of lines
 finished-same lines draft h = λ i. record {
-  proxyauthz = false;
+  proxyauthz = h.proxyauthz i;
   own_bind = (ap (option_and_then (λ bind. bind.own_bind)) h.bind ∙ own_bind-same (arguments_under BindConf lines)) i;
   timeout = (ap (λ o. option_map_or (λ bind. bind.timeout) o timeout.default) h.bind ∙ timeout-same (arguments_under BindConf lines)) i;
   plan = h.plan i;
   hosts = h.hosts i;
   client_max_pending = unwrap_or (h.client_max_pending i) client_max_pending.default;
+  client_max_unsent = unwrap_or (h.client_max_unsent i) client_max_unsent.default;
   client_limit = unwrap_or (h.client_limit i) client_limit.default;
   upstream_limit = unwrap_or (h.upstream_limit i) upstream_limit.default;
   iotimeout = unwrap_or (h.iotimeout i) iotimeout.default;
-  write_coherence = pos 0;
+  write_coherence = unwrap_or (h.write_coherence i) (pos write_coherence.default);
+  restrictions = h.restrictions i;
   io_threads = unwrap_or (h.io_threads i) io_threads.default;
 }

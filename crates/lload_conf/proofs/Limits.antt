@@ -87,7 +87,7 @@ fits : (n : ℕ) → nat_lt 512 n ≡ false → n ≤ 512
 fits n h = grind (arith, nat_tests, h)
 
 -- a line without a fault leaves the draft within the limits
-pub within-more : (draft : Draft) (d : Directive) (words : Words) → IsWithin draft → HasShortWords 1048576 words → Clear (before_draft draft d) d words → IsWithin (with_entry draft d words)
+pub within-more : (draft : Draft) (d : Directive) (words : Words) → IsWithin draft → HasShortWords 1048576 words → Clear (before_draft draft d words) d words → IsWithin (with_entry draft d words)
 within-more draft Tier words w short free =
     let tier : TierPlan = record { kind = kind_of words; backends = [] } in
     let plan = whole_plan draft.earlier draft.last in
@@ -135,9 +135,9 @@ within-none = record { tiers = refl; few_tiers = omega arith; backends = refl; f
 pub within-taken : (draft after : Draft) (line : Words) → IsWithin draft → HasShortWords 1048576 line → draft_fault draft line ≡ None → after ≡ with_words draft line → IsWithin after
 within-taken draft after line w short none is' = subst IsWithin (sym is') (by-entry (entry_of line) none)
   where
-    by-entry : (o : Option Entry) → option_map_or (λ entry. entry_fault (before_draft draft entry.0) entry (arguments_of line)) o (Some 3) ≡ None → IsWithin (option_map_or (λ entry. with_entry draft entry.0 (arguments_of line)) o draft)
+    by-entry : (o : Option Entry) → option_map_or (λ entry. entry_fault (before_draft draft entry.0 (arguments_of line)) entry (arguments_of line)) o (Some 3) ≡ None → IsWithin (option_map_or (λ entry. with_entry draft entry.0 (arguments_of line)) o draft)
     by-entry None none' = cc
-    by-entry (Some entry) none' = within-more draft entry.0 (arguments_of line) w (arguments-short 1048576 line short) (clear (before_draft draft entry.0) entry (arguments_of line) none')
+    by-entry (Some entry) none' = within-more draft entry.0 (arguments_of line) w (arguments-short 1048576 line short) (clear (before_draft draft entry.0 (arguments_of line)) entry (arguments_of line) none')
 
 -- a limit that is set or is the default
 limit-there : (o : Option ℕ) (default : ℕ) → IsLimit default → IfSome o IsLimit → IsLimit (unwrap_or o default)

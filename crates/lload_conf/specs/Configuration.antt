@@ -1,16 +1,18 @@
 -- The configuration of a text, or its first fault.
-use Rattle.std.specs.Prelude.{ℕ, ◌+◌, ◌==◌, if◌then◌else◌, List, [], ◌∷◌, ◌++◌, length, count_by, sum_by, codes, Option, Some, None, is_some, Result, Ok, Err, ◌&&◌, not}
+use Rattle.std.specs.Prelude.{ℕ, ◌+◌, ◌==◌, if◌then◌else◌, List, [], ◌∷◌, ◌++◌, length, count_by, sum_by, codes, Option, Some, None, is_some, Result, Ok, Err, Bool, false, ◌&&◌, ◌||◌, not}
 use Rattle.std.specs.Fmt.{decimal}
 use Rattle.std.specs.Option.{option_map_or}
 use Rattle.conf_words.specs.Lines.{ConfLine, Content, Worded, Faulty, conf_lines, line_count}
 use Rattle.lload_names.specs.Plans.{backends_of, place_count}
 use Rattle.lload_conf.specs.Faults.{entry_fault, may_stand_again, places_of}
 use Rattle.lload_conf.specs.Line.{Words, arguments_of, arguments_under, entry_of, is_of}
-use Rattle.lload_conf.specs.Settings.{config_of}
+use Rattle.restrictions.specs.Actions.{restriction_of}
+use Rattle.restrictions.specs.declared.table.Restrictions.{Restrictions}
+use Rattle.lload_conf.specs.Settings.{config_of, oid_of, restricted_by}
 use Rattle.lload_conf.specs.declared.config.Config.{Config}
 use Rattle.lload_conf.specs.declared.line.Before.{Before}
 use Rattle.lload_conf.specs.declared.table.Directive.{Directive}
-use Rattle.lload_conf.specs.declared.table.Directive.TheVariants.{Tier, BackendServer}
+use Rattle.lload_conf.specs.declared.table.Directive.TheVariants.{Tier, BackendServer, RestrictExop, RestrictControl}
 
 -- how many of some lines are of this directive
 abbrev pub count_under : Directive → List Words → ℕ
@@ -20,10 +22,17 @@ count_under d lines = count_by (is_of d) lines
 abbrev pub places_here : Words → ℕ
 places_here line = if is_of BackendServer line then places_of (arguments_of line) else 0
 
--- what stood in some lines, for a line of this directive behind them; what may stand again counts as not yet there
-abbrev pub before_of : List Words → Directive → Before
-before_of lines d = record {
-  stood = is_some (arguments_under d lines) && not (may_stand_again d);
+-- whether the arguments of a line of this directive restrict an OID that has a restriction of the same kind
+abbrev pub is_restricted : Directive → Words → Restrictions → Bool
+is_restricted RestrictExop words table = is_some (restriction_of (oid_of words) table.exops)
+is_restricted RestrictControl words table = is_some (restriction_of (oid_of words) table.controls)
+is_restricted _ words table = false
+
+-- what stood in some lines, for a line of this directive with these arguments behind them; what may stand again counts
+-- as not yet there, but for the OIDs that are restricted
+abbrev pub before_of : List Words → Directive → Words → Before
+before_of lines d words = record {
+  stood = is_some (arguments_under d lines) && not (may_stand_again d) || is_restricted d words (restricted_by lines);
   tiers = count_under Tier lines;
   backends = count_under BackendServer lines;
   places = sum_by places_here lines;
@@ -31,7 +40,7 @@ before_of lines d = record {
 
 -- the lowest kind that holds of a line behind these; kind 3: its directive isn't known
 abbrev pub line_fault : List Words → Words → Option ℕ
-line_fault before line = option_map_or (λ entry. entry_fault (before_of before entry.0) entry (arguments_of line)) (entry_of line) (Some 3)
+line_fault before line = option_map_or (λ entry. entry_fault (before_of before entry.0 (arguments_of line)) entry (arguments_of line)) (entry_of line) (Some 3)
 
 -- a fault: its line, counted from 1, and its kind
 pub record Fault : Type 0 where

@@ -4,14 +4,14 @@ use Rattle.std.specs.Prelude.{ℕ, ◌+◌, ◌==◌, ◌&&◌, ◌||◌, not, B
 use Rattle.std.specs.List.{list_any}
 use Rattle.std.specs.Option.{option_map_or}
 use Rattle.std.specs.Str.{str_eq_ignore_ascii_case}
-use Rattle.lload_conf.specs.Line.{Words, argument_read, key_of, number_of, value_of}
+use Rattle.lload_conf.specs.Line.{Words, argument_of, argument_read, key_of, number_of, second_of, value_of}
 use Rattle.lload_conf.specs.Table.{Entry, numconns, bindconns}
-use Rattle.lload_conf.specs.Values.{number, tier_kind, is_feature, uri_target}
+use Rattle.lload_conf.specs.Values.{action_named, number, tier_kind, is_feature, is_isolate, is_left_out_feature, is_oid, seconds, uri_target}
 use Rattle.lload_conf.specs.declared.line.Before.{Before}
 use Rattle.lload_conf.specs.declared.table.Arguments.{Arguments}
-use Rattle.lload_conf.specs.declared.table.Arguments.TheVariants.{One, Each, Pairs, Unread}
+use Rattle.lload_conf.specs.declared.table.Arguments.TheVariants.{One, Each, Pairs, Restriction, Unread}
 use Rattle.lload_conf.specs.declared.table.Directive.{Directive}
-use Rattle.lload_conf.specs.declared.table.Directive.TheVariants.{BindConf, Tier, BackendServer, Feature, Noted, LeftOut}
+use Rattle.lload_conf.specs.declared.table.Directive.TheVariants.{BindConf, Tier, BackendServer, Feature, RestrictExop, RestrictControl, Noted, LeftOut}
 use Rattle.lload_conf.specs.declared.table.Takes.{Takes}
 use Rattle.lload_conf.specs.declared.table.Takes.TheVariants as takes
 use Rattle.lload_conf.specs.declared.values.Target.{Target}
@@ -22,6 +22,7 @@ abbrev pub has_wrong_count : Arguments → Words → Bool
 has_wrong_count (One t) words = not (length words == 1)
 has_wrong_count (Each t) words = length words == 0
 has_wrong_count (Pairs keys) words = length words == 0
+has_wrong_count Restriction words = not (length words == 2)
 has_wrong_count Unread words = false
 
 abbrev pub is_unreadable_target : Target → Bool
@@ -35,14 +36,20 @@ is_elsewhere _ = false
 -- whether a text is a number that can't be read or is out of range, a port included
 abbrev pub is_unreadable : Takes → List ℕ → Bool
 is_unreadable (takes.Number range) text = is_none (number range text)
+is_unreadable takes.Seconds text = is_none (seconds text)
 is_unreadable takes.Uri text = is_unreadable_target (uri_target text)
 is_unreadable _ text = false
 
 abbrev pub is_unreadable_argument : Arguments → List ℕ → Bool
 is_unreadable_argument arguments word = option_map_or (λ read. is_unreadable read.0 read.1) (argument_read arguments word) false
 
--- kind 5: a number is unreadable or out of range
+-- whether an argument is there and fails a test
+abbrev pub fails : (List ℕ → Bool) → Option (List ℕ) → Bool
+fails test argument = option_map_or (λ text. not (test text)) argument false
+
+-- kind 5: a number is unreadable or out of range, or an OID is unreadable
 abbrev pub has_unreadable : Arguments → Words → Bool
+has_unreadable Restriction words = fails is_oid (argument_of words)
 has_unreadable arguments words = list_any (is_unreadable_argument arguments) words
 
 -- whether a text is a tier type or a feature that isn't known
@@ -54,8 +61,13 @@ is_unknown _ text = false
 abbrev pub is_unknown_argument : Arguments → List ℕ → Bool
 is_unknown_argument arguments word = option_map_or (λ read. is_unknown read.0 read.1) (argument_read arguments word) true
 
--- kind 6: a key, feature or tier type is unknown, or an argument that is to be a key with its value has no `=`
+-- whether a text is an action of lloadd.conf(5)
+abbrev pub is_action : List ℕ → Bool
+is_action text = is_some (action_named text) || is_isolate text
+
+-- kind 6: a key, feature, tier type or action is unknown, or an argument that is to be a key with its value has no `=`
 abbrev pub has_unknown : Arguments → Words → Bool
+has_unknown Restriction words = fails is_action (second_of words)
 has_unknown arguments words = list_any (is_unknown_argument arguments) words
 
 -- whether two arguments set one key
@@ -72,18 +84,21 @@ abbrev pub may_stand_again : Directive → Bool
 may_stand_again Tier = true
 may_stand_again BackendServer = true
 may_stand_again Feature = true
+may_stand_again RestrictExop = true
+may_stand_again RestrictControl = true
 may_stand_again Noted = true
 may_stand_again LeftOut = true
 may_stand_again _ = false
 
--- kind 7: a key stands twice in the line, or the directive stood before and may not stand again
+-- kind 7: a key stands twice in the line, the directive stood before and may not stand again, or it restricted the OID
+-- before
 abbrev pub stands_twice : Before → Arguments → Words → Bool
 stands_twice before arguments words = repeats arguments words || before.stood
 
 -- whether a text belongs to something that this proxy doesn't have
 abbrev pub is_left_out : Takes → List ℕ → Bool
 is_left_out takes.LeftOut text = true
-is_left_out takes.Feature text = true
+is_left_out takes.Feature text = is_left_out_feature text
 is_left_out takes.Method text = not (bytes_eq text (codes "simple"))
 is_left_out takes.Uri text = is_elsewhere (uri_target text)
 is_left_out _ text = false
@@ -93,6 +108,7 @@ is_left_out_argument arguments word = option_map_or (λ read. is_left_out read.0
 
 -- kind 8: something that this proxy doesn't have stands in the line
 abbrev pub has_left_out : Arguments → Words → Bool
+has_left_out Restriction words = option_map_or is_isolate (second_of words) false
 has_left_out Unread words = true
 has_left_out arguments words = list_any (is_left_out_argument arguments) words
 

@@ -6,9 +6,9 @@ use Rattle.std.specs.Str.{str_eq_ignore_ascii_case}
 use Rattle.lload_conf.specs.Table.{Entry, directive_named, key_named}
 use Rattle.lload_conf.specs.Values.{number_or_default, parts}
 use Rattle.lload_conf.specs.declared.table.Arguments.{Arguments}
-use Rattle.lload_conf.specs.declared.table.Arguments.TheVariants.{One, Each, Pairs, Unread}
+use Rattle.lload_conf.specs.declared.table.Arguments.TheVariants.{One, Each, Pairs, Restriction, Unread}
 use Rattle.lload_conf.specs.declared.table.Directive.{Directive}
-use Rattle.lload_conf.specs.declared.table.Directive.TheVariants.{BindConf, Tier, BackendServer, ClientMaxPending, ClientLimit, UpstreamLimit, IoTimeout, IoThreads, Feature, Noted, LeftOut}
+use Rattle.lload_conf.specs.declared.table.Directive.TheVariants.{BindConf, Tier, BackendServer, ClientMaxPending, ClientLimit, UpstreamLimit, IoTimeout, IoThreads, Feature, WriteCoherence, RestrictExop, RestrictControl, ClientMaxUnsent, Noted, LeftOut}
 use Rattle.lload_conf.specs.declared.table.Keys.{Keys}
 use Rattle.lload_conf.specs.declared.table.Number.{Number}
 use Rattle.lload_conf.specs.declared.table.Takes.{Takes}
@@ -33,6 +33,11 @@ abbrev pub argument_of : Words → Option (List ℕ)
 argument_of [] = None
 argument_of (word ∷ words) = Some word
 
+-- the second of two arguments
+abbrev pub second_of : Words → Option (List ℕ)
+second_of [] = None
+second_of (word ∷ words) = argument_of words
+
 -- a number for each directive that can be asked for, to tell them apart
 abbrev pub rank : Directive → ℕ
 rank BindConf = 0
@@ -46,6 +51,10 @@ rank IoThreads = 7
 rank Feature = 8
 rank Noted = 9
 rank LeftOut = 10
+rank WriteCoherence = 11
+rank RestrictExop = 12
+rank RestrictControl = 13
+rank ClientMaxUnsent = 14
 
 -- whether a line is of this directive
 abbrev pub is_of : Directive → Words → Bool
@@ -65,6 +74,7 @@ abbrev pub argument_read : Arguments → List ℕ → Option (Takes × List ℕ)
 argument_read (One t) word = Some (t, word)
 argument_read (Each t) word = Some (t, word)
 argument_read (Pairs keys) word = option_and_then (value_read keys) (parts 61 word)
+argument_read Restriction word = Some (takes.Text, word)
 argument_read Unread word = Some (takes.Text, word)
 
 -- the key of an argument, which stands before its first `=`

@@ -14,8 +14,8 @@ own_bind_of bind = record { dn = bind.dn; credentials = bind.credentials }
 abbrev pub first_plan : List TierPlan → List Planned
 first_plan tiers = record { plan = tiers; base = 0 } ∷ []
 
--- the settings of a run whose connections retire at this identifier; no configuration restricts requests yet, and the
--- hosts, `iotimeout` and `io-threads` are for the network alone
+-- the settings of a run whose connections retire at this identifier; the hosts, `iotimeout`, `client_max_unsent` and
+-- `io-threads` are for the network alone
 abbrev pub settings_of : ℕ → Config → Settings
 settings_of limit config =
     record {
@@ -24,8 +24,8 @@ settings_of limit config =
       timeout = config.timeout;
       client_max_pending = config.client_max_pending;
       write_coherence = config.write_coherence;
-      exop_restrictions = [];
-      control_restrictions = [];
+      exop_restrictions = config.restrictions.exops;
+      control_restrictions = config.restrictions.controls;
       plans = first_plan config.plan;
       id_limit = limit;
       max_incoming_client = config.client_limit;

@@ -5,7 +5,7 @@ use Rattle.std.specs.Borrow.{Bor}
 use Rattle.std.specs.Option.{option_or}
 use Rattle.std.specs.Str.{str_eq_ignore_ascii_case}
 use Rattle.lload_conf.specs.declared.table.Arguments.{Arguments}
-use Rattle.lload_conf.specs.declared.table.Arguments.TheVariants.{One, Each, Pairs, Unread}
+use Rattle.lload_conf.specs.declared.table.Arguments.TheVariants.{One, Each, Pairs, Restriction, Unread}
 use Rattle.lload_conf.specs.declared.table.Directive.{Directive}
 use Rattle.lload_conf.specs.declared.table.Directive.TheVariants as directive
 use Rattle.lload_conf.specs.declared.table.Keys.{Keys}
@@ -24,6 +24,16 @@ any_number default = numbers 0 4294967295 default
 
 abbrev pub client_max_pending : Number
 client_max_pending = any_number 0
+
+abbrev pub client_max_unsent : Number
+client_max_unsent = any_number 0
+
+abbrev pub write_coherence : Number
+write_coherence = numbers 0 2147483647 0
+
+-- what stands behind the sign of a negative one
+abbrev pub negative_coherence : Number
+negative_coherence = numbers 0 2147483648 0
 
 abbrev pub client_limit : Number
 client_limit = numbers 1 268435455 262143
@@ -83,20 +93,21 @@ directives =
     ∷ (codes "tier", (directive.Tier, One takes.Kind))
     ∷ (codes "backend-server", (directive.BackendServer, Pairs Backend))
     ∷ (codes "client_max_pending", (directive.ClientMaxPending, One (takes.Number client_max_pending)))
+    ∷ (codes "client_max_unsent", (directive.ClientMaxUnsent, One (takes.Number client_max_unsent)))
     ∷ (codes "sockbuf_max_incoming_client", (directive.ClientLimit, One (takes.Number client_limit)))
     ∷ (codes "sockbuf_max_incoming_upstream", (directive.UpstreamLimit, One (takes.Number upstream_limit)))
     ∷ (codes "iotimeout", (directive.IoTimeout, One (takes.Number iotimeout)))
     ∷ (codes "io-threads", (directive.IoThreads, One (takes.Number io_threads)))
     ∷ (codes "feature", (directive.Feature, Each takes.Feature))
+    ∷ (codes "write_coherence", (directive.WriteCoherence, One takes.Seconds))
+    ∷ (codes "restrict_exop", (directive.RestrictExop, Restriction))
+    ∷ (codes "restrict_control", (directive.RestrictControl, Restriction))
     ∷ (codes "loglevel", noted)
     ∷ (codes "pidfile", noted)
     ∷ (codes "argsfile", noted)
     ∷ (codes "threads", noted)
     ∷ (codes "concurrency", noted)
     ∷ (codes "max_pdus_per_cycle", noted)
-    ∷ (codes "write_coherence", left_out)
-    ∷ (codes "restrict_exop", left_out)
-    ∷ (codes "restrict_control", left_out)
     ∷ (codes "include", left_out)
     ∷ (codes "listen", left_out)
     ∷ (codes "moduleload", left_out)

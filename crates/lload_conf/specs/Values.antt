@@ -1,5 +1,5 @@
 -- What the texts of arguments and of keys' values say.
-use Rattle.std.specs.Prelude.{ℕ, ◌==◌, ◌&&◌, ◌||◌, not, Bool, nat_eq, nat_le, nat_lt, if◌then◌else◌, List, [], ◌∷◌, length, drop, codes, bytes_eq, Option, Some, None, option_map, unwrap_or}
+use Rattle.std.specs.Prelude.{ℕ, ◌==◌, ◌&&◌, ◌||◌, not, Bool, false, nat_eq, nat_le, nat_lt, if◌then◌else◌, List, [], ◌∷◌, length, drop, codes, bytes_eq, Option, Some, None, option_map, unwrap_or, ℤ, pos, negsuc, zero, suc}
 use Rattle.std.specs.Char.{is_ascii_digit}
 use Rattle.std.specs.List.{list_all, starts_with, position_or_len, before_first, after_first}
 use Rattle.std.specs.Option.{option_and_then, option_map_or}
@@ -7,7 +7,9 @@ use Rattle.std.specs.Str.{str_eq_ignore_ascii_case}
 use Rattle.std.specs.Str.Parse.{digits_value}
 use Rattle.lload_names.specs.declared.plans.TierKind.{TierKind}
 use Rattle.lload_names.specs.declared.plans.TierKind.TheVariants.{RoundRobin, Weighted, BestOf}
-use Rattle.lload_conf.specs.Table.{named, octet, port}
+use Rattle.lload_conf.specs.Table.{named, negative_coherence, octet, port, write_coherence}
+use Rattle.restrictions.specs.declared.action.Action.{Action}
+use Rattle.restrictions.specs.declared.action.Action.TheVariants as action
 use Rattle.lload_conf.specs.declared.table.Number.{Number}
 use Rattle.lload_conf.specs.declared.values.Target.{Target}
 use Rattle.lload_conf.specs.declared.values.Target.TheVariants.{At, Unreadable, Elsewhere}
@@ -26,13 +28,61 @@ number range text =
 abbrev pub number_or_default : Number → Option (List ℕ) → ℕ
 number_or_default range text = unwrap_or (option_and_then (number range) text) range.default
 
+-- a number below zero, or zero
+abbrev pub negative : ℕ → ℤ
+negative zero = pos 0
+negative (suc n) = negsuc n
+
+-- the number of seconds that a text says, where it is in the range; a negative one stands behind its sign
+abbrev pub seconds : List ℕ → Option ℤ
+seconds text =
+    if starts_with nat_eq text (codes "-") then option_map negative (number negative_coherence (drop 1 text))
+    else option_map pos (number write_coherence text)
+
+-- the same, or the default where the text says none or isn't there
+abbrev pub seconds_or_default : Option (List ℕ) → ℤ
+seconds_or_default text = unwrap_or (option_and_then seconds text) (pos write_coherence.default)
+
+-- whether an OID goes on with a byte, behind a digit or not: a dot behind a digit, or a digit
+abbrev pub goes_on : Bool → ℕ → Bool
+goes_on behind_digit c = if c == 46 then behind_digit else is_ascii_digit c
+
+-- the same of all bytes, the last of which is a digit
+abbrev pub is_oid_behind : Bool → List ℕ → Bool
+is_oid_behind behind_digit [] = behind_digit
+is_oid_behind behind_digit (c ∷ cs) = goes_on behind_digit c && is_oid_behind (not (c == 46)) cs
+
+-- whether a text is an OID: groups of digits with single dots between them
+abbrev pub is_oid : List ℕ → Bool
+is_oid text = is_oid_behind false text
+
+-- what a restriction does
+abbrev pub action_named : List ℕ → Option Action
+action_named text =
+    named
+    ((codes "ignore", action.Ignore)
+    ∷ (codes "write", action.Write)
+    ∷ (codes "backend", action.Backend)
+    ∷ (codes "connection", action.Connection)
+    ∷ (codes "reject", action.Reject)
+    ∷ [])
+    text
+
+-- whether a text names the action of lloadd.conf(5) that is left out
+abbrev pub is_isolate : List ℕ → Bool
+is_isolate text = str_eq_ignore_ascii_case text (codes "isolate")
+
 -- how a tier picks a backend
 abbrev pub tier_kind : List ℕ → Option TierKind
 tier_kind text = named ((codes "roundrobin", RoundRobin) ∷ (codes "weighted", Weighted) ∷ (codes "bestof", BestOf) ∷ []) text
 
+-- whether a text names the feature of lloadd.conf(5) that is left out
+abbrev pub is_left_out_feature : List ℕ → Bool
+is_left_out_feature text = str_eq_ignore_ascii_case text (codes "vc")
+
 -- whether a text names a feature of lloadd.conf(5)
 abbrev pub is_feature : List ℕ → Bool
-is_feature text = str_eq_ignore_ascii_case text (codes "proxyauthz") || str_eq_ignore_ascii_case text (codes "vc")
+is_feature text = str_eq_ignore_ascii_case text (codes "proxyauthz") || is_left_out_feature text
 
 -- the two parts of a text round the first byte c
 abbrev pub parts : ℕ → List ℕ → Option (List ℕ × List ℕ)

@@ -1,6 +1,7 @@
 ghost use Rattle.std.specs.Prelude.{◌≡◌, IfOk};
 
 use lload_names::{Body, DeskPlan, Listed, NoMemory};
+use restrictions::Restrictions;
 use std::alloc::Global;
 
 /// How the proxy binds itself to its backends (`bindconf` in lloadd.conf(5)).
@@ -45,14 +46,19 @@ pub struct Config {
     pub hosts: Hosts,
     /// How many operations a client may have pending (`client_max_pending`); 0 sets no limit.
     pub client_max_pending: u32,
+    /// From how many bytes on that wait for a client its backends' connections aren't read (`client_max_unsent`); 0 sets
+    /// no limit.
+    pub client_max_unsent: u32,
     /// How many bytes a message of a client may hold (`sockbuf_max_incoming_client`).
     pub client_limit: u32,
     /// How many bytes a message of a backend may hold (`sockbuf_max_incoming_upstream`).
     pub upstream_limit: u32,
     /// After how many milliseconds a write that doesn't move fails (`iotimeout`); 0 sets no limit.
     pub iotimeout: u32,
-    /// How many seconds a write binds what follows it (`write_coherence`).
+    /// How many seconds a write binds what follows it (`write_coherence`); a negative number is for ever.
     pub write_coherence: i32,
+    /// What requests are kept from, and what they bind (`restrict_exop` and `restrict_control`).
+    pub restrictions: Restrictions,
     /// How many threads serve the connections (`io-threads`).
     pub io_threads: u32,
 }
@@ -65,6 +71,7 @@ impl Config {
         let own_bind = copy_own_bind(&self.own_bind)?;
         let plan = self.plan.copy()?;
         let hosts = copy_hosts(alloc, &self.hosts)?;
+        let restrictions = self.restrictions.copy()?;
         Ok(Config {
             proxyauthz: self.proxyauthz,
             own_bind,
@@ -72,10 +79,12 @@ impl Config {
             plan,
             hosts,
             client_max_pending: self.client_max_pending,
+            client_max_unsent: self.client_max_unsent,
             client_limit: self.client_limit,
             upstream_limit: self.upstream_limit,
             iotimeout: self.iotimeout,
             write_coherence: self.write_coherence,
+            restrictions,
             io_threads: self.io_threads,
         })
     }

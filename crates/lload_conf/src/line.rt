@@ -1,18 +1,21 @@
-ghost use Rattle.std.specs.Prelude.{◌≡◌, ◌≤◌, ◌∷◌, length, IfOk, MatchOption, Some, None, option_copied};
+ghost use Rattle.std.specs.Prelude.{◌≡◌, ◌≤◌, ◌∷◌, not, false, length, IfOk, MatchOption, Some, None, option_copied};
 ghost use Rattle.std.specs.List.{list_any};
-ghost use Rattle.lload_conf.specs.Faults.{entry_fault, has_key, has_left_out, has_unknown, has_unreadable, has_wrong_count, is_left_out, is_left_out_argument, is_unknown, is_unknown_argument, is_unreadable, is_unreadable_argument, lacks_key, lacks_tier, passes_limit, places_of, repeats, repeats_key, stands_twice};
-ghost use Rattle.lload_conf.specs.Line.{argument_read, key_of, number_of, value_of, value_under};
+ghost use Rattle.lload_conf.specs.Faults.{entry_fault, has_key, has_left_out, has_unknown, is_action, has_unreadable, has_wrong_count, is_left_out, is_left_out_argument, is_unknown, is_unknown_argument, is_unreadable, is_unreadable_argument, lacks_key, lacks_tier, passes_limit, places_of, repeats, repeats_key, stands_twice};
+ghost use Rattle.lload_conf.specs.Line.{argument_of, argument_read, key_of, number_of, second_of, value_of, value_under};
 
 use crate::table::{
     Arguments, BINDCONNS, Directive, NUMCONNS, Number, Takes, key_named, same_name,
 };
-use crate::values::{Target, is_feature, number, number_or_default, parts, tier_kind, uri_target};
+use crate::values::{
+    Target, action_named, is_feature, is_isolate, is_left_out_feature, is_oid, number,
+    number_or_default, parts, seconds, tier_kind, uri_target,
+};
 use lload_names::{NoMemory, Word};
 use std::alloc::Global;
 use std::collections::HashSet;
 
-/// What stood before a line: whether its directive did and may not again, and how many tiers, backends and places there
-/// are.
+/// What stood before a line: whether its directive did and may not again, or restricted its OID; and how many tiers,
+/// backends and places there are.
 #[derive(Clone, Copy, Debug, Drop)]
 pub struct Before {
     pub stood: bool,
@@ -61,13 +64,26 @@ fn has_wrong_count(arguments: Arguments, words: &[Word]) -> bool
     match arguments {
         Arguments::One(_) => words.len() != 1,
         Arguments::Each(_) | Arguments::Pairs(_) => words.len() == 0,
+        Arguments::Restriction => words.len() != 2,
         Arguments::Unread => false,
     }
 }
 
-/// Kind 5: a number is unreadable or out of range.
+/// Kind 5: a number is unreadable or out of range, or an OID is unreadable.
 fn has_unreadable(arguments: Arguments, words: &[Word]) -> bool
     ensures { result ≡ has_unreadable arguments words.now }
+{
+    match arguments {
+        Arguments::Restriction => match words.first() {
+            Some(oid) => !is_oid(oid.as_str()),
+            None => false,
+        },
+        _ => has_unreadable_argument(arguments, words),
+    }
+}
+
+fn has_unreadable_argument(arguments: Arguments, words: &[Word]) -> bool
+    ensures { result ≡ list_any (is_unreadable_argument arguments) words.now }
 {
     words
         .iter()
@@ -88,14 +104,35 @@ fn is_unreadable(takes: Takes, text: &str) -> bool
 {
     match takes {
         Takes::Number(range) => number(range, text).is_none(),
+        Takes::Seconds => seconds(text).is_none(),
         Takes::Uri => matches!(uri_target(text), Target::Unreadable),
         _ => false,
     }
 }
 
-/// Kind 6: a key, a feature or a tier type is unknown, or an argument that is to be a key with its value has no `=`.
+/// Kind 6: a key, a feature, a tier type or an action is unknown, or an argument that is to be a key with its value has
+/// no `=`.
 fn has_unknown(arguments: Arguments, words: &[Word]) -> bool
     ensures { result ≡ has_unknown arguments words.now }
+{
+    match arguments {
+        Arguments::Restriction => match second_of(words) {
+            Some(action) => !is_action(action),
+            None => false,
+        },
+        _ => has_unknown_argument(arguments, words),
+    }
+}
+
+/// Whether a text is an action of lloadd.conf(5).
+fn is_action(text: &str) -> bool
+    ensures { result ≡ is_action text.now }
+{
+    action_named(text).is_some() || is_isolate(text)
+}
+
+fn has_unknown_argument(arguments: Arguments, words: &[Word]) -> bool
+    ensures { result ≡ list_any (is_unknown_argument arguments) words.now }
 {
     words
         .iter()
@@ -121,7 +158,7 @@ fn is_unknown(takes: Takes, text: &str) -> bool
     }
 }
 
-/// Kind 7: a key stands twice in the line, or the directive stood before and may not stand again.
+/// Kind 7: a key stands twice in the line, or the directive stood before and may not stand again, or restricted the OID.
 fn stands_twice(
     alloc: Global,
     before: Before,
@@ -147,6 +184,10 @@ fn has_left_out(arguments: Arguments, words: &[Word]) -> bool
     ensures { result ≡ has_left_out arguments words.now }
 {
     match arguments {
+        Arguments::Restriction => match second_of(words) {
+            Some(action) => is_isolate(action),
+            None => false,
+        },
         Arguments::Unread => true,
         _ => has_left_out_argument(arguments, words),
     }
@@ -173,7 +214,8 @@ fn is_left_out(takes: Takes, text: &str) -> bool
     ensures { result ≡ is_left_out takes text.now }
 {
     match takes {
-        Takes::LeftOut | Takes::Feature => true,
+        Takes::LeftOut => true,
+        Takes::Feature => is_left_out_feature(text),
         Takes::Method => text != "simple",
         Takes::Uri => matches!(uri_target(text), Target::Elsewhere),
         _ => false,
@@ -241,7 +283,17 @@ fn argument_read(arguments: Arguments, word: &Word) -> Option<(Takes, &str)>
             let takes = key_named(keys, key)?;
             Some((takes, value))
         }
-        Arguments::Unread => Some((Takes::Text, word.as_str())),
+        Arguments::Restriction | Arguments::Unread => Some((Takes::Text, word.as_str())),
+    }
+}
+
+/// The second of some arguments.
+pub fn second_of(words: &[Word]) -> Option<&str>
+    ensures { option_copied result ≡ second_of words.now }
+{
+    match words {
+        [_, second, ..] => Some(second.as_str()),
+        _ => None,
     }
 }
 

@@ -2,8 +2,9 @@ ghost use Rattle.std.specs.Prelude.{◌≡◌};
 ghost use Rattle.std.specs.Str.{str_eq_ignore_ascii_case};
 ghost use Rattle.lload_conf.specs.Table.{begins_with_tls, directive_named, key_named, keys_of, named, rows_of};
 
-use Arguments::{Each, One, Pairs, Unread};
+use Arguments::{Each, One, Pairs, Restriction, Unread};
 use lload_names::TierKind;
+use restrictions::Action;
 
 /// A directive of the file.
 #[derive(Clone, Copy, Debug, PartialEq, Eq, Drop)]
@@ -17,6 +18,10 @@ pub enum Directive {
     IoTimeout,
     IoThreads,
     Feature,
+    WriteCoherence,
+    RestrictExop,
+    RestrictControl,
+    ClientMaxUnsent,
     /// It has no effect.
     Noted,
     /// The proxy doesn't have it.
@@ -32,6 +37,8 @@ pub enum Arguments {
     Each(Takes),
     /// One argument or more, each a key, `=` and a value.
     Pairs(Keys),
+    /// Two arguments: an OID and an action.
+    Restriction,
     /// They aren't looked at.
     Unread,
 }
@@ -50,13 +57,15 @@ pub enum Takes {
     Text,
     /// A number in a range.
     Number(Number),
+    /// A number of seconds, which may be negative.
+    Seconds,
     /// The address of a backend.
     Uri,
     /// How the proxy binds itself; it has `simple` alone.
     Method,
     /// How a tier picks a backend.
     Kind,
-    /// The name of a feature; the proxy has none.
+    /// The name of a feature; it has `proxyauthz` alone.
     Feature,
     /// The proxy doesn't have what it sets.
     LeftOut,
@@ -73,6 +82,25 @@ pub struct Number {
 pub const CLIENT_MAX_PENDING: Number = Number {
     low: 0,
     high: u32::MAX,
+    default: 0,
+};
+
+pub const CLIENT_MAX_UNSENT: Number = Number {
+    low: 0,
+    high: u32::MAX,
+    default: 0,
+};
+
+pub const WRITE_COHERENCE: Number = Number {
+    low: 0,
+    high: 2_147_483_647,
+    default: 0,
+};
+
+/// What stands behind the sign of a negative one.
+pub const NEGATIVE_COHERENCE: Number = Number {
+    low: 0,
+    high: 2_147_483_648,
     default: 0,
 };
 
@@ -158,7 +186,7 @@ pub const OCTET: Number = Number {
 type Table<T, const N: usize> = [(&'static str, T); N];
 
 /// The directives of lloadd.conf(5). Those that begin with `TLS` are left out too.
-const DIRECTIVES: Table<(Directive, Arguments), 24> = [
+const DIRECTIVES: Table<(Directive, Arguments), 25> = [
     ("bindconf", (Directive::BindConf, Pairs(Keys::Bind))),
     ("tier", (Directive::Tier, One(Takes::Kind))),
     (
@@ -170,6 +198,13 @@ const DIRECTIVES: Table<(Directive, Arguments), 24> = [
         (
             Directive::ClientMaxPending,
             One(Takes::Number(CLIENT_MAX_PENDING)),
+        ),
+    ),
+    (
+        "client_max_unsent",
+        (
+            Directive::ClientMaxUnsent,
+            One(Takes::Number(CLIENT_MAX_UNSENT)),
         ),
     ),
     (
@@ -189,15 +224,21 @@ const DIRECTIVES: Table<(Directive, Arguments), 24> = [
         (Directive::IoThreads, One(Takes::Number(IO_THREADS))),
     ),
     ("feature", (Directive::Feature, Each(Takes::Feature))),
+    (
+        "write_coherence",
+        (Directive::WriteCoherence, One(Takes::Seconds)),
+    ),
+    ("restrict_exop", (Directive::RestrictExop, Restriction)),
+    (
+        "restrict_control",
+        (Directive::RestrictControl, Restriction),
+    ),
     ("loglevel", (Directive::Noted, Each(Takes::Text))),
     ("pidfile", (Directive::Noted, Each(Takes::Text))),
     ("argsfile", (Directive::Noted, Each(Takes::Text))),
     ("threads", (Directive::Noted, Each(Takes::Text))),
     ("concurrency", (Directive::Noted, Each(Takes::Text))),
     ("max_pdus_per_cycle", (Directive::Noted, Each(Takes::Text))),
-    ("write_coherence", (Directive::LeftOut, Unread)),
-    ("restrict_exop", (Directive::LeftOut, Unread)),
-    ("restrict_control", (Directive::LeftOut, Unread)),
     ("include", (Directive::LeftOut, Unread)),
     ("listen", (Directive::LeftOut, Unread)),
     ("moduleload", (Directive::LeftOut, Unread)),
@@ -245,6 +286,15 @@ pub const TIER_KINDS: Table<TierKind, 3> = [
     ("roundrobin", TierKind::RoundRobin),
     ("weighted", TierKind::Weighted),
     ("bestof", TierKind::BestOf),
+];
+
+/// The actions of restrictions.
+pub const ACTIONS: Table<Action, 5> = [
+    ("ignore", Action::Ignore),
+    ("write", Action::Write),
+    ("backend", Action::Backend),
+    ("connection", Action::Connection),
+    ("reject", Action::Reject),
 ];
 
 /// The directive of a name, and what its arguments are; `None` exactly where lloadd.conf(5) has no such directive.

@@ -1,12 +1,15 @@
-ghost use Rattle.std.specs.Prelude.{◌≡◌, ◌≤◌, ◌<◌, IfSome, MatchOption, Some, None, option_copied};
+ghost use Rattle.std.specs.Prelude.{◌≡◌, ◌≤◌, ◌<◌, false, IfSome, MatchOption, Some, None, option_copied};
 ghost use Rattle.std.specs.Char.{is_ascii_digit};
 ghost use Rattle.std.specs.List.{list_all};
 ghost use Rattle.lload_conf.specs.Table.{octet};
-ghost use Rattle.lload_conf.specs.Values.{authority_target, four_groups, host_target, ip_of, is_decimal, is_feature, number, number_or_default, parts, target_at, tier_kind, uri_target, without_last_slash};
+ghost use Rattle.lload_conf.specs.Values.{action_named, authority_target, four_groups, host_target, ip_of, is_decimal, is_isolate, is_left_out_feature, is_oid, is_feature, goes_on, negative, number, number_or_default, parts, seconds, seconds_or_default, target_at, tier_kind, uri_target, without_last_slash};
 
 use crate::config::Address4;
-use crate::table::{Number, OCTET, PORT, TIER_KINDS, named, same_name};
+use crate::table::{
+    ACTIONS, NEGATIVE_COHERENCE, Number, OCTET, PORT, TIER_KINDS, WRITE_COHERENCE, named, same_name,
+};
 use lload_names::TierKind;
+use restrictions::Action;
 
 /// Where a `uri` leads.
 #[derive(Clone, Copy, Debug, PartialEq, Eq, Drop)]
@@ -51,6 +54,76 @@ pub fn number_or_default(range: Number, text: Option<&str>) -> u32
         .unwrap_or(range.default)
 }
 
+/// The number of seconds that a text says in decimal digits, behind a sign where it is negative; `None` exactly where it
+/// says none in the range.
+pub fn seconds(text: &str) -> Option<i32>
+    ensures { result ≡ seconds text.now }
+{
+    match text.strip_prefix("-") {
+        Some(digits) => Some(negative(number(NEGATIVE_COHERENCE, digits)?)),
+        None => Some(number(WRITE_COHERENCE, text)? as i32),
+    }
+}
+
+/// The same, or the default where the text says none or isn't there.
+pub fn seconds_or_default(text: Option<&str>) -> i32
+    ensures { result ≡ seconds_or_default (option_copied text.entry) }
+{
+    text.and_then(seconds)
+        .unwrap_or(WRITE_COHERENCE.default as i32)
+}
+
+/// A number below zero, or zero.
+fn negative(number: u32) -> i32
+    requires { number ≤ 2147483648 }
+    ensures { result ≡ negative number }
+{
+    match number {
+        0 => 0,
+        _ => -1 - (number - 1) as i32,
+    }
+}
+
+/// Whether a text is an OID: groups of digits with single dots between them.
+pub fn is_oid(text: &str) -> bool
+    ensures { result ≡ is_oid text.now }
+{
+    let mut behind_digit = false;
+    let mut left = text.as_bytes();
+    while let Some((byte, behind)) = left.split_first() {
+        if !goes_on(behind_digit, *byte) {
+            return false;
+        }
+        behind_digit = *byte != b'.';
+        left = behind;
+    }
+    behind_digit
+}
+
+/// Whether an OID goes on with a byte: a dot behind a digit, or a digit.
+fn goes_on(behind_digit: bool, byte: u8) -> bool
+    ensures { result ≡ goes_on behind_digit byte }
+{
+    match byte {
+        b'.' => behind_digit,
+        _ => byte.is_ascii_digit(),
+    }
+}
+
+/// The action that a text names.
+pub fn action_named(text: &str) -> Option<Action>
+    ensures { result ≡ action_named text.now }
+{
+    named(&ACTIONS, text)
+}
+
+/// Whether a text names the action of lloadd.conf(5) that the proxy doesn't have.
+pub fn is_isolate(text: &str) -> bool
+    ensures { result ≡ is_isolate text.now }
+{
+    same_name(text, "isolate")
+}
+
 /// The kind of tier that a text names.
 pub fn tier_kind(text: &str) -> Option<TierKind>
     ensures { result ≡ tier_kind text.now }
@@ -62,7 +135,14 @@ pub fn tier_kind(text: &str) -> Option<TierKind>
 pub fn is_feature(text: &str) -> bool
     ensures { result ≡ is_feature text.now }
 {
-    same_name(text, "proxyauthz") || same_name(text, "vc")
+    same_name(text, "proxyauthz") || is_left_out_feature(text)
+}
+
+/// Whether a text names the feature of lloadd.conf(5) that the proxy doesn't have.
+pub fn is_left_out_feature(text: &str) -> bool
+    ensures { result ≡ is_left_out_feature text.now }
+{
+    same_name(text, "vc")
 }
 
 /// The parts of a text round the first separator, which is an ASCII character.

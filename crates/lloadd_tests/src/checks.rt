@@ -6,7 +6,7 @@ use std::test::Fail;
 
 /// A file in the usual form.
 const USUAL: &[u8] =
-    b"# front of the directory\nbindconf bindmethod=simple binddn=\"cn=proxy,dc=example,dc=com\"\n\tcredentials=secret timeout=30 network-timeout=5\nio-threads 2\nclient_max_pending 50\ntier weighted\nbackend-server uri=ldap://127.0.0.1:1389 numconns=5\n\tbindconns=2 weight=3\nbackend-server uri=ldap://localhost:1390 numconns=5 bindconns=2\ntier roundrobin\nbackend-server uri=ldap://127.0.0.1:1391\n";
+    b"# front of the directory\nfeature proxyauthz\nbindconf bindmethod=simple binddn=\"cn=proxy,dc=example,dc=com\"\n\tcredentials=secret timeout=30 network-timeout=5\nio-threads 2\nclient_max_pending 50\nwrite_coherence 5\nrestrict_exop 1.3.6.1.4.1.4203.1.11.1 write\nrestrict_control 1.2.840.113556.1.4.319 connection\ntier weighted\nbackend-server uri=ldap://127.0.0.1:1389 numconns=5\n\tbindconns=2 weight=3\nbackend-server uri=ldap://localhost:1390 numconns=5 bindconns=2\ntier roundrobin\nbackend-server uri=ldap://127.0.0.1:1391\n";
 
 #[test]
 fn good_configurations_are_accepted(rt: HostRuntime) -> Result<(), Fail> {
@@ -29,7 +29,11 @@ fn good_configurations_are_accepted(rt: HostRuntime) -> Result<(), Fail> {
 fn the_first_fault_is_named(rt: HostRuntime) -> Result<(), Fail> {
     let rows = [
         ("", 1, 10),
-        ("# front\nfeature proxyauthz\n", 2, 8),
+        (
+            "# front of the directory\nfeature proxyauthz\nbindconf bindmethod=simple binddn=cn=p credentials=s timeout=30\nrestrict_exop 1.2.3 isolate\nio-threads 2\n",
+            4,
+            8,
+        ),
         (
             "tier roundrobin\nbackend-server uri=ldap://127.0.0.1:0\n",
             2,

@@ -1,4 +1,4 @@
-ghost use Rattle.std.specs.Prelude.{◌≡◌, [], Ok, true, false, IfOk, IsSome, OnErr, is_none};
+ghost use Rattle.std.specs.Prelude.{◌≡◌, [], Ok, true, false, IfOk, IsSome, OnErr, is_none, is_some};
 ghost use Rattle.lload_spec.specs.Binding.{action_for};
 ghost use Rattle.restrictions.specs.Actions.{action_view, restriction_of, put};
 
@@ -35,6 +35,13 @@ impl Actions {
             by_oid: BTreeMap::new(alloc),
             alloc,
         }
+    }
+
+    /// Whether an OID has an action.
+    pub(crate) fn has(&self, oid: &[u8]) -> bool
+        ensures { result ≡ is_some (restriction_of oid.now self.now) }
+    {
+        self.by_oid.contains_key(oid)
     }
 
     /// Gives an OID an action; `Ok(false)` exactly where it has one, and then nothing changes and no memory is wanted.

@@ -1,4 +1,4 @@
-ghost use Rattle.std.specs.Prelude.{◌≡◌, [], Ok, Some, true, false, IfOk, IsSome, OnErr, is_none};
+ghost use Rattle.std.specs.Prelude.{◌≡◌, [], Ok, Some, true, false, IfOk, IsSome, OnErr, is_none, is_some};
 ghost use Rattle.ldap_spec.specs.Requests.{request as request_of};
 ghost use Rattle.ldap_messages.specs.Requests.{view};
 ghost use Rattle.lload_spec.specs.Binding.{action as action_of, highest};
@@ -30,6 +30,20 @@ impl Restrictions {
             exops: Actions::new(alloc),
             controls: Actions::new(alloc),
         }
+    }
+
+    /// Whether the Extended requests of this name were restricted. It takes no memory.
+    pub fn has_exop(&self, oid: &[u8]) -> bool
+        ensures { result ≡ is_some (restriction_of oid.now self.now.exops) }
+    {
+        self.exops.has(oid)
+    }
+
+    /// Whether the requests with this control were restricted. It takes no memory.
+    pub fn has_control(&self, oid: &[u8]) -> bool
+        ensures { result ≡ is_some (restriction_of oid.now self.now.controls) }
+    {
+        self.controls.has(oid)
     }
 
     /// Restricts the Extended requests of this name (`restrict_exop`); the name `1.1` stands for all that have no

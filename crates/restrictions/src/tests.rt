@@ -43,6 +43,8 @@ fn the_highest_of_the_controls_counts(rt: HostRuntime) -> Result<(), Fail> {
     assert_eq!(rt; effective(&copy, DELETE_NOTED), Some(Action::Connection));
     assert_eq!(rt; effective(&copy, COMPARE_NOTED), Some(Action::Connection));
     assert_eq!(rt; effective(&copy, DELETE), Some(Action::Write));
+    assert!(rt; copy.has_control(b"1.2.4"));
+    assert!(rt; !copy.has_exop(b"1.2.4"));
     assert_eq!(rt;
         effective(&copy, EXTENDED_NOTED),
         Some(Action::Ignore),

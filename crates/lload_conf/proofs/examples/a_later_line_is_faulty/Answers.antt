@@ -26,3 +26,7 @@ returns-clause-places c = refl
 pub returns-clause-first : goal.returns-clause-first
 unfolding chars is_utf8 encode
 returns-clause-first c = refl
+
+pub returns-clause-restricted : goal.returns-clause-restricted
+unfolding chars is_utf8 encode
+returns-clause-restricted c = refl

@@ -62,3 +62,19 @@ returns-clause-no_credentials c = refl
 pub returns-clause-lowest : goal.returns-clause-lowest
 unfolding chars is_utf8 encode
 returns-clause-lowest c = refl
+
+pub returns-clause-seconds : goal.returns-clause-seconds
+unfolding chars is_utf8 encode
+returns-clause-seconds c = refl
+
+pub returns-clause-not_an_oid : goal.returns-clause-not_an_oid
+unfolding chars is_utf8 encode
+returns-clause-not_an_oid c = refl
+
+pub returns-clause-not_an_action : goal.returns-clause-not_an_action
+unfolding chars is_utf8 encode
+returns-clause-not_an_action c = refl
+
+pub returns-clause-isolated : goal.returns-clause-isolated
+unfolding chars is_utf8 encode
+returns-clause-isolated c = refl
