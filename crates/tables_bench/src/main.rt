@@ -163,11 +163,11 @@ impl Filled {
     }
 }
 
-/// Asks for the lowest identifier that is due at a moment so many times, and says how often there was one.
+/// Asks for the lowest identifier that is due so many times, at moments about this one, and says how often there was one.
 fn dues(deadlines: &Deadlines, now: u64, times: u32) -> u32 {
     let mut found = 0u32;
-    for _ in 0..times {
-        if deadlines.first_due(now).is_some() {
+    for k in 0..times {
+        if deadlines.first_due(now ^ (k as u64 % 1_000)).is_some() {
             found = found.saturating_add(1);
         }
     }
