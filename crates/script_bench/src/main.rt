@@ -99,7 +99,14 @@ fn measure_entries(rt: &(impl Clock + Print), alloc: Global) -> Result<()> {
     let Ok(rest) = Body::from_slice(alloc, b"\x4A\x03o=a") else {
         bail!("no memory for a request");
     };
-    let sent = entry(up, What::Sent { id: 5, op: OP, rest });
+    let sent = entry(
+        up,
+        What::Sent {
+            id: 5,
+            op: OP,
+            rest,
+        },
+    );
     measure_write(rt, alloc, &sent, "sent")?;
     let answer = Answer::Go {
         conn: 12,
@@ -112,7 +119,12 @@ fn measure_entries(rt: &(impl Clock + Print), alloc: Global) -> Result<()> {
         conn: 12,
         latency: Some(7),
     };
-    measure_write(rt, alloc, &entry(PartName::Desk, What::Heard { letter }), "heard ended")
+    measure_write(
+        rt,
+        alloc,
+        &entry(PartName::Desk, What::Heard { letter }),
+        "heard ended",
+    )
 }
 
 fn main(rt: HostRuntime) -> Result<()> {
