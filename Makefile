@@ -31,6 +31,7 @@ bench:
 	@cd crates/lock_bench && rt run -- measure
 	@cd crates/tier_bench && rt run -- measure
 	@cd crates/tables_bench && rt run -- measure
+	@cd crates/script_bench && rt run -- measure
 	@cd crates/conf_bench && rt run -- measure
 	@cd crates/controls_bench && rt run -- measure
 

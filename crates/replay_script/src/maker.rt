@@ -16,12 +16,15 @@ pub const ROUNDS_LIMIT: u32 = 100_000;
 
 /// A Delete of o=a, and its success (RFC 4511, section 4.8).
 const DELETE: &[u8] = b"\x4A\x03o=a";
+
 const DELETE_DONE: &[u8] = b"\x6B\x07\x0A\x01\x00\x04\x00\x04\x00";
 
 /// A Search for the presence of objectClass, an entry, and its success (section 4.5).
 const SEARCH: &[u8] =
     b"\x63\x20\x04\x00\x0A\x01\x00\x0A\x01\x00\x02\x01\x00\x02\x01\x00\x01\x01\x00\x87\x0BobjectClass\x30\x00";
+
 const SEARCH_ENTRY: &[u8] = b"\x64\x07\x04\x03o=a\x30\x00";
+
 const SEARCH_DONE: &[u8] = b"\x65\x07\x0A\x01\x00\x04\x00\x04\x00";
 
 /// The regular connections of the configuration `bench`, in the order in which they come to answer.

@@ -163,6 +163,17 @@ impl Filled {
     }
 }
 
+/// Asks for the lowest identifier that is due so many times, at moments about this one, and says how often there was one.
+fn dues(deadlines: &Deadlines, now: u64, times: u32) -> u32 {
+    let mut found = 0u32;
+    for k in 0..times {
+        if deadlines.first_due(now ^ (k as u64 % 1_000)).is_some() {
+            found = found.saturating_add(1);
+        }
+    }
+    found
+}
+
 /// The nanoseconds of a call, where so many took the time since a moment.
 fn nanoseconds_each(rt: &impl Clock, start: Instant) -> Result<u64> {
     let nanos = u64::try_from(start.elapsed(rt)?.as_nanos()).unwrap_or(u64::MAX);
@@ -182,6 +193,14 @@ fn measure(rt: &(impl Clock + Print), alloc: Global, count: u32, order: Order) -
     println!(rt;
         "Deadlines with {count} that wait, {rows}: touch, stop and start together {each} ns"
     )?;
+    for (now, name) in [(0, "none is due"), (u64::MAX, "all are due")] {
+        let start = Instant::now(rt)?;
+        let found = dues(&filled.deadlines, now, CALLS);
+        let each = nanoseconds_each(rt, start)?;
+        println!(rt;
+            "Deadlines with {count} that wait, of which {name}: first_due {each} ns, {found} found"
+        )?;
+    }
     let calls = [
         (Call::Row, "row"),
         (Call::Find, "find"),

@@ -1,4 +1,4 @@
-use Rattle.std.proofs.Common.{◌≡◌, ◌≤◌, [], arith, rules, sym, ap, ◌∙◌}
+use Rattle.std.proofs.Common.{◌≡◌, ◌≤◌, [], arith, rules, ap, ◌∙◌}
 use Rattle.rand_pcg.specs.Pcg.{pcg32}
 use Rattle.replay_script.proofs.Making.{own-rest, round-made, round-left}
 use Rattle.replay_script.proofs.maker.Maker.next.Goals as goal
