@@ -1,0 +1,4 @@
+pub mod DeskPicks
+pub mod DeskTakes
+pub mod DeskChooses
+pub mod DeskFollowing
