@@ -1,0 +1,5 @@
+pub mod ClientLetters
+pub mod ConnectionLetters
+pub mod DeskLetters
+pub mod FirstLetters
+pub mod Books
