@@ -3,3 +3,5 @@ pub mod ConnectionLetters
 pub mod DeskLetters
 pub mod FirstLetters
 pub mod Books
+pub mod Ledgers
+pub mod Rules

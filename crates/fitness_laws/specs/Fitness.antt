@@ -8,6 +8,7 @@ use Rattle.lload_spec.specs.Settings.{Settings}
 use Rattle.part_spec.specs.Fit.{is_all_fit, is_fit}
 use Rattle.part_spec.specs.Merge.{PartMove, world_of}
 use Rattle.part_spec.specs.World.{World, empty_world, list_in, turn_of}
+use Rattle.link_laws.specs.Laws.{StatesAreOfLists}
 use Rattle.link_laws.specs.Moves.{has_entry, marks_moves, waiting_between}
 use Rattle.move_laws.specs.World as machine
 use Rattle.move_laws.specs.AgreeBinds.{Holds}
@@ -34,6 +35,12 @@ HaveRules s w =
     → IsTrue
     (list_all (λ letter. has_entry (turn_of s w receiver (LetterFrom now word sender letter)))
     (waiting_between w sender receiver))
+
+-- where a world of the machine stands for a world, and each part's state is that of its list
+abbrev pub RulesLaw : Type 0
+RulesLaw =
+    (s : Settings) (b : Book) (w : World) (v : machine.World) → WorldStands s b w v → Holds (kinds_of s b) v
+    → StatesAreOfLists s w → HaveRules s w
 
 -- each letter of each part's list was fit where it was taken, and each that waits has a rule
 pub record IsFitWorld (s : Settings) (w : World) : Type 0 where
