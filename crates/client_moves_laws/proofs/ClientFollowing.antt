@@ -164,7 +164,7 @@ takes_message s b w c at now id rest l holds h has = go (is_present l.state && n
         subst (λ (a : Act). Moved s b c at l a (client_side w c)) (sym (ap act_by e)) (checked s b w c at id rest l holds h p.0 here rests (made e) (check_at s l.state (record { id = id; rest = rest })) refl)
 
 -- An answer.
-awaited : (s : Settings) (b : Book) (w : World) (c k u : ℕ) (l : ClientLedger) → Holds (kinds_of s b) w → ClientStands s b c l (w.clients c) → at ((w.clients c).given k) u ≡ true → (w.clients c).closed k u ≡ false → Awaited b c k u (w.clients c)
+pub awaited : (s : Settings) (b : Book) (w : World) (c k u : ℕ) (l : ClientLedger) → Holds (kinds_of s b) w → ClientStands s b c l (w.clients c) → at ((w.clients c).given k) u ≡ true → (w.clients c).closed k u ≡ false → Awaited b c k u (w.clients c)
 awaited s b w c k u l holds h given closed =
     let x = w.clients c in
     let a = holds.asking c k in

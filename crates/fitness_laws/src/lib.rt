@@ -1,0 +1,25 @@
+//! Fitness: each letter is fit where it is taken.
+//!
+//! A world of the machine stands for a world of the parts, and the machine's law says that the letters which wait first are
+//! fit there; so they are fit for the parts.
+#![tactic(auto)]
+
+ghost use Rattle.stands_laws.specs.Laws.{BookLaw};
+ghost use Rattle.fitness_laws.specs.Fitness.{FirstFitLaw, RulesLaw};
+
+/// Each run has a book from the beginning: the request of each of its operations, with its action, and whether it goes on in
+/// an exchange.
+pub fn each_run_has_a_book()
+    ensures { BookLaw }
+{}
+
+/// Where the machine stands for a world, each letter that waits first is fit where it will be taken.
+pub fn first_letters_are_fit()
+    ensures { FirstFitLaw }
+{}
+
+/// Where the machine stands for a world, and each part's state is that of its list, each letter that waits has a rule: a turn
+/// that takes it has an entry, whatever the moment.
+pub fn waiting_letters_have_rules()
+    ensures { RulesLaw }
+{}
