@@ -6,3 +6,11 @@ pub mod Known
 pub mod Life
 pub mod FitTurns
 pub mod LifeKept
+pub mod Expects
+pub mod Told
+pub mod Only
+pub mod Tells
+pub mod Owns
+pub mod Effects
+pub mod ToldTurns
+pub mod ToldKept

@@ -41,7 +41,7 @@ abbrev pub FirstFits : Settings → ClientLedger → List Marked → Type 0
 FirstFits s l [] = Unit {0}
 FirstFits s l (m ∷ ms) = is_unfit (fits_client s) l m.mark ≡ false
 
-not_false : (b : Bool) → not b ≡ false → b ≡ true
+pub not_false : (b : Bool) → not b ≡ false → b ≡ true
 not_false true h = refl
 not_false false h = absurd (let bad : true ≡ false = h in cc)
 
@@ -125,7 +125,7 @@ module _ (s : Settings) (c : ℕ) where
           chosen = λ at sender op a here. lived at (taken sender (Choice op a)) (what.Chosen op a) (whats_for (row_named l.state op) a) (λ u. let there : list_any (λ x. same_op op x.op) l.state.asked ≡ true = fit_asked s l sender op a u in let known : AskKnown c place _ = asked_known c place l.state.asked op h.asks.each there in (λ o b e. let same : op ≡ o = cc in subst (λ x. list_any (λ y. same_op x y.op) l.state.asked ≡ true) same there, both ((op.client == c && is_some (operation_in c place op)) && not (list_any (is_choice_for op) place)) true (both (op.client == c && is_some (operation_in c place op)) _ (both (op.client == c) _ (left (op.client == c) _ (left _ _ known.within)) (within_there c place op known.within)) (ap not known.unchosen)) refl)) (choice_all is_quiet (λ id rest. refl) (row_named l.state op) a);
           answered = λ at sender op rest is_last who r e here. quiet at (taken sender (Reply op rest is_last who)) (what.Out r.request.id rest ∷ []) refl;
           failed = λ at sender op which r e here. quiet at (taken sender (Failed op which)) (refused r.request which) (refused_all is_quiet (λ id rest. refl) r.request which);
-          late = λ at mark op e here. quiet at mark (what.Late op ∷ []) refl;
+          late = λ at mark op e here about. quiet at mark (what.Late op ∷ []) refl;
           breaks = λ at why there e n. quiet at None (noticed why) refl;
           severed = λ at why here e. quiet at None (what.Gone why ∷ []) refl;
           stalls = λ at here. quiet at None (what.Stalled ∷ []) refl;

@@ -2,7 +2,7 @@
 use Rattle.std.proofs.Common.{◌≡◌, ℕ, suc, ◌≤◌, Bool, true, false, ◌==◌, ◌&&◌, not, List, [], ◌∷◌, ◌++◌, length, refl, ap, arith, ◌∙◌, sym, subst}
 use Rattle.std.specs.Prelude.{Option, Some, None, is_some, map, nat_le, nat_lt, unwrap_or, if◌then◌else◌}
 use Rattle.std.specs.List.{list_any, list_all}
-use Rattle.std.proofs.lemmas.Bool.{le-leb, leb-true}
+use Rattle.std.proofs.lemmas.Bool.{le-leb, leb-true, lt-ltb}
 use Rattle.std.proofs.lemmas.Bool.Decides.{nat_tests}
 use Rattle.ldap_spec.specs.Messages.{Message}
 use Rattle.ldap_spec.specs.Kinds.{kind_of, same_kind}
@@ -64,7 +64,7 @@ named_each c place = go (is_named_within c (length (operations c place))) (opera
     go t [] h = tt
     go t (o ∷ os) h = (left (t o) _ h, go t os (right (t o) _ h))
 
-carried_wants : (s : Settings) (m : Message) (who : List ℕ) → wants_identity s (record m { rest = carried_for s m who }) ≡ wants_identity s m
+pub carried_wants : (s : Settings) (m : Message) (who : List ℕ) → wants_identity s (record m { rest = carried_for s m who }) ≡ wants_identity s m
 carried_wants s m who = by (is_request_of Bind m) refl
   where
     none : (a b : Bool) → (a && false && b) ≡ false
@@ -78,6 +78,7 @@ carried_wants s m who = by (is_request_of Bind m) refl
 -- What is known of a row: its number, its operation's request, and the choice of its connection where it isn't a Bind.
 pub record RowKnown (s : Settings) (c : ℕ) (place : List Entry) (r : ClientRow) : Type 0 where
   pub within : nat_le r.k (length (operations c place)) ≡ true
+  pub positive : nat_lt 0 r.k ≡ true
   pub same : Each (λ o. (r.k == o.name.k) ≡ true → IsOf s r o) (operations c place)
   pub chosen : implies (not (is_bind_row r) && is_some r.connection) (list_any (is_choice_for (record { client = c; k = r.k })) place) ≡ true
 
@@ -111,6 +112,7 @@ module _ (s : Settings) (c at : ℕ) (part : PartName) (mark : Option Taken) (pl
   older r h =
       record {
         within = le_more r.k (length (operations c place)) (length (operations c (place ++ entry_of part at w ∷ []))) h.within (more_operations c place (entry_of part at w));
+        positive = h.positive;
         same = each_grows (λ o. (r.k == o.name.k) ≡ true → IsOf s r o) c place (entry_of part at w) (each_imply (λ o. (r.k == o.name.k) ≡ true → IsOf s r o) (λ o. (r.k == o.name.k) ≡ true → IsOf s r (later_operation (entry_of part at w) o)) (operations c place) (λ o f k. record { carries = record { kind = (f k).carries.kind; wants = (f k).carries.wants }; action = (f k).action }) h.same) (λ m k j. absurd (let low : nat_le r.k (length (operations c place)) ≡ true = h.within in grind (arith, nat_tests, low, j)));
         chosen = implies_stays (not (is_bind_row r) && is_some r.connection) _ _ (any_before (is_choice_for (record { client = c; k = r.k })) place (entry_of part at w ∷ [])) h.chosen;
       }
@@ -119,6 +121,7 @@ module _ (s : Settings) (c at : ℕ) (part : PartName) (mark : Option Taken) (pl
   newer m e makes =
       record {
         within = ap (λ n. nat_le (suc n) (length (operations c (place ++ entry_of part at w ∷ [])))) count ∙ ap (nat_le (suc (length (operations c place)))) (count_rises c place (entry_of part at w) m message) ∙ le_same (suc (length (operations c place)));
+        positive = lt-ltb 0 (suc p.count) (omega arith);
         same = each_grows (λ o. (suc p.count == o.name.k) ≡ true → IsOf s (new_row s p m) o) c place (entry_of part at w) (each_imply (λ o. is_named_within c (length (operations c place)) o ≡ true) (λ o. (suc p.count == o.name.k) ≡ true → IsOf s (new_row s p m) (later_operation (entry_of part at w) o)) (operations c place) (λ o h k. not_both (suc (length (operations c place)) == o.name.k) (ap (λ n. suc n == o.name.k) (sym count) ∙ k) (fresh_number c place o h)) (named_each c place)) (λ x k j. one x (let same : Some m ≡ Some x = sym message ∙ k in cc));
         chosen = unchosen;
       }
@@ -154,6 +157,7 @@ module _ (s : Settings) (c at : ℕ) (part : PartName) (mark : Option Taken) (pl
           let mine : is_choice_for (record { client = c; k = r.k }) (entry_of part at w) ≡ true = ap (λ v. is_choice_for (record { client = c; k = r.k }) (entry_of part at v)) e ∙ both (c == op.client) _ (eq_eqb c op.client client) (eq_eqb r.k op.k k) in
           record {
             within = h.within;
+            positive = h.positive;
             same = each_imply (λ o. (r.k == o.name.k) ≡ true → IsOf s r o) (λ o. (r.k == o.name.k) ≡ true → IsOf s (record r { connection = Some (unwrap_or r.connection u) }) o) (operations c (place ++ entry_of part at w ∷ [])) (λ o g i. record { carries = (g i).carries; action = (g i).action }) h.same;
             chosen = implies_by (not (is_bind_row r) && true) _ (λ i. any_behind (is_choice_for (record { client = c; k = r.k })) place (entry_of part at w ∷ []) (or_left (is_choice_for (record { client = c; k = r.k }) (entry_of part at w)) false mine));
           }

@@ -5,10 +5,18 @@
 //! client's turns make.
 #![tactic(auto)]
 
-ghost use Rattle.client_answer_laws.specs.Clauses.{ClientLife};
+ghost use Rattle.client_answer_laws.specs.Clauses.{ClientLife, ClientAnswered, ClientSuccesses};
 
 /// Up to the first letter that isn't fit, a client's list is one of a client's life: each choice is the first of an operation
 /// of its own, no message comes while the client's part holds, and the notice stands only before an end that it is sent for.
 pub fn a_client_lives_its_life()
     ensures life { ClientLife }
+{}
+
+/// Up to the first letter that isn't fit, what a client got for each operation is a beginning of the answers that were taken for
+/// it, or such a beginning without a final one and then one answer of the proxy's own; and a success that was kept back went out
+/// only with a readable identity.
+pub fn a_client_gets_the_answers_that_were_taken()
+    ensures answered { ClientAnswered }
+    ensures successes_known { ClientSuccesses }
 {}

@@ -83,11 +83,18 @@ ext_tag (t ∷ n ∷ xs) h = by (is_tag t) (length_of (take (length_size n) (n �
     by true (Some size) k = whole size (nat_le (suc (length_size n) + size) (length (t ∷ n ∷ xs))) k
     by false o k = no_way k
 
+-- the live request that a Cancel ends
+pub record NamedOne (f : ClientFacts) (id : ℕ) (kind : OpKind) : Type 0 where
+  pub request : LiveRequest
+  pub found : find (may_be_canceled id) f.live ≡ Some request
+  pub kind_is : request.kind ≡ Some kind
+
 -- what the check found
-pub record Named (f : ClientFacts) (m : Message) (id : ℕ) : Type 0 where
+pub record Named (f : ClientFacts) (m : Message) (id : ℕ) (kind : OpKind) : Type 0 where
   pub ext : is_ext (request m.rest) ≡ true
   pub other : (id == m.id) ≡ false
   pub live : list_any (λ x. x.id == id) f.live ≡ true
+  pub one : NamedOne f id kind
 
 abbrev is_cancels : Check → Bool
 is_cancels (Cancels id kind) = true
@@ -114,63 +121,65 @@ found_live t (y ∷ ys) x h = more (t y) h (found_live t ys x)
     more true k g = let same : y ≡ x = cc in or_left (y.id == x.id) _ (ap (λ z. z.id == x.id) same ∙ eqb_same x.id)
     more false k g = or_right (y.id == x.id) _ (g k)
 
-record Found (f : ClientFacts) (n id : ℕ) : Type 0 where
+record Found (f : ClientFacts) (n id : ℕ) (kind : OpKind) : Type 0 where
   other : (id == n) ≡ false
   live : list_any (λ x. x.id == id) f.live ≡ true
+  one : NamedOne f id kind
 
-cancel_found : (f : ClientFacts) (n id : ℕ) (kind : OpKind) (o : Option ℕ) → check_cancel f n o ≡ Cancels id kind → Found f n id
+cancel_found : (f : ClientFacts) (n id : ℕ) (kind : OpKind) (o : Option ℕ) → check_cancel f n o ≡ Cancels id kind → Found f n id kind
 cancel_found f n id kind None h = no_cancels (Answers C16) id kind refl h
 cancel_found f n id kind (Some named) h = by (named == n) refl h
   where
     state : Bool → Check
     state b = elim b [ true ↦ Answers C15 | false ↦ cancels (find (may_be_canceled named) f.live) ]
 
-    by : (b : Bool) → (named == n) ≡ b → state b ≡ Cancels id kind → Found f n id
+    by : (b : Bool) → (named == n) ≡ b → state b ≡ Cancels id kind → Found f n id kind
     by true e k = no_cancels (Answers C15) id kind refl k
     by false e k = one (find (may_be_canceled named) f.live) refl k
       where
-        one : (o : Option LiveRequest) → find (may_be_canceled named) f.live ≡ o → cancels o ≡ Cancels id kind → Found f n id
+        one : (o : Option LiveRequest) → find (may_be_canceled named) f.live ≡ o → cancels o ≡ Cancels id kind → Found f n id kind
         one None g j = no_cancels (Answers C14) id kind refl j
-        one (Some x) g j = kinds x.kind j
+        one (Some x) g j = kinds x.kind refl j
           where
             put : Option OpKind → Check
             put q = elim q [ None ↦ Answers C14 | Some c ↦ Cancels x.id c ]
 
-            kinds : (q : Option OpKind) → put q ≡ Cancels id kind → Found f n id
-            kinds None i = no_cancels (Answers C14) id kind refl i
-            kinds (Some c) i =
+            kinds : (q : Option OpKind) → x.kind ≡ q → put q ≡ Cancels id kind → Found f n id kind
+            kinds None e' i = no_cancels (Answers C14) id kind refl i
+            kinds (Some c) e' i =
+                let sort : c ≡ kind = cc in
                 let same : x.id ≡ id = cc in
                 let name : x.id ≡ named = same_number x.id named (left (x.id == named) _ (found_passes (may_be_canceled named) f.live x g)) in
-                record { other = ap (λ y. y == n) (sym same ∙ name) ∙ e; live = ap (λ y. list_any (λ z. z.id == y) f.live) (sym same) ∙ found_live (may_be_canceled named) f.live x g }
+                record { other = ap (λ y. y == n) (sym same ∙ name) ∙ e; live = ap (λ y. list_any (λ z. z.id == y) f.live) (sym same) ∙ found_live (may_be_canceled named) f.live x g; one = record { request = x; found = ap (λ y. find (may_be_canceled y) f.live) (sym same ∙ name) ∙ g; kind_is = e' ∙ ap Some sort } }
 
-named_found : (s : Settings) (f : ClientFacts) (m : Message) (name : List ℕ) (id : ℕ) (kind : OpKind) → check_named s f m name ≡ Cancels id kind → (bytes_eq name cancel_name ≡ true) × Found f m.id id
+named_found : (s : Settings) (f : ClientFacts) (m : Message) (name : List ℕ) (id : ℕ) (kind : OpKind) → check_named s f m name ≡ Cancels id kind → (bytes_eq name cancel_name ≡ true) × Found f m.id id kind
 named_found s f m name id kind h = by (is_none (controls m.rest)) f.in_exchange (bytes_eq name start_tls) (bytes_eq name cancel_name) refl h
   where
-    by : (a b c d : Bool) → bytes_eq name cancel_name ≡ d → (if a then Ends Unreadable else if b then Refuses C7 else if c then Refuses C10 else if d then check_cancel f m.id (cancel_id m.rest) else check_restrictions s f m.rest) ≡ Cancels id kind → (bytes_eq name cancel_name ≡ true) × Found f m.id id
+    by : (a b c d : Bool) → bytes_eq name cancel_name ≡ d → (if a then Ends Unreadable else if b then Refuses C7 else if c then Refuses C10 else if d then check_cancel f m.id (cancel_id m.rest) else check_restrictions s f m.rest) ≡ Cancels id kind → (bytes_eq name cancel_name ≡ true) × Found f m.id id kind
     by true b c d e k = no_cancels (Ends Unreadable) id kind refl k
     by false true c d e k = no_cancels (Refuses C7) id kind refl k
     by false false true d e k = no_cancels (Refuses C10) id kind refl k
     by false false false true e k = (e, cancel_found f m.id id kind (cancel_id m.rest) k)
     by false false false false e k = no_cancels (check_restrictions s f m.rest) id kind (restrictions_none s f m.rest) k
 
-pub cancel_named : (s : Settings) (f : ClientFacts) (m : Message) (id : ℕ) (kind : OpKind) → check s f m ≡ Cancels id kind → Named f m id × ((m.id == 0) ≡ false)
+pub cancel_named : (s : Settings) (f : ClientFacts) (m : Message) (id : ℕ) (kind : OpKind) → check s f m ≡ Cancels id kind → Named f m id kind × ((m.id == 0) ≡ false)
 cancel_named s f m id kind h = by (m.id == 0) (makes_operation m && is_in_use f m.id) refl h
   where
-    asked : (r : Option Request) → request m.rest ≡ r → check_request s f m r ≡ Cancels id kind → Named f m id
+    asked : (r : Option Request) → request m.rest ≡ r → check_request s f m r ≡ Cancels id kind → Named f m id kind
     asked None e k = no_cancels (Ends Unreadable) id kind refl k
     asked (Some (BindRequest version name method)) e k = three (version == 3) k
       where
-        three : (b : Bool) → (if b then GoesOn else Refuses C11) ≡ Cancels id kind → Named f m id
+        three : (b : Bool) → (if b then GoesOn else Refuses C11) ≡ Cancels id kind → Named f m id kind
         three true j = no_cancels GoesOn id kind refl j
         three false j = no_cancels (Refuses C11) id kind refl j
     asked (Some UnbindRequest) e k = no_cancels Unbinds id kind refl k
     asked (Some (AbandonRequest n)) e k = no_cancels (Abandons n) id kind refl k
     asked (Some (ExtendedRequest name)) e k =
         let it = named_found s f m name id kind k in
-        record { ext = ap is_ext e; other = it.1.other; live = it.1.live }
+        record { ext = ap is_ext e; other = it.1.other; live = it.1.live; one = it.1.one }
     asked (Some (PlainRequest sort)) e k = no_way (named_found s f m [] id kind k).0
 
-    by : (z b : Bool) → (m.id == 0) ≡ z → (if z then Ends ZeroId else if b then Ends IdInUse else check_request s f m (request m.rest)) ≡ Cancels id kind → Named f m id × ((m.id == 0) ≡ false)
+    by : (z b : Bool) → (m.id == 0) ≡ z → (if z then Ends ZeroId else if b then Ends IdInUse else check_request s f m (request m.rest)) ≡ Cancels id kind → Named f m id kind × ((m.id == 0) ≡ false)
     by true b e k = no_cancels (Ends ZeroId) id kind refl k
     by false true e k = no_cancels (Ends IdInUse) id kind refl k
     by false false e k = (asked (request m.rest) refl k, e)

@@ -163,10 +163,10 @@ row_owed p op r e = among (λ q. p.number == op.client && q.k == op.k) p.rows r 
         more false g ih = or_right (x.request.id == y.request.id) _ (ih g)
 
 -- what has the tag of an Extended request makes an operation, and is no Bind
-ext_makes : (m : Message) → (m.id == 0) ≡ false → (tag_of m.rest == 0x77) ≡ true → makes_operation m ≡ true
+pub ext_makes : (m : Message) → (m.id == 0) ≡ false → (tag_of m.rest == 0x77) ≡ true → makes_operation m ≡ true
 ext_makes m z t = let tag : tag_of m.rest ≡ 0x77 = same_number (tag_of m.rest) 0x77 t in ap (λ n. not (m.id == 0) && not (n == 0x42) && not (n == 0x50)) tag ∙ ap (λ b. not b && true && true) z
 
-ext_no_bind : (m : Message) → (tag_of m.rest == 0x77) ≡ true → is_request_of Bind m ≡ false
+pub ext_no_bind : (m : Message) → (tag_of m.rest == 0x77) ≡ true → is_request_of Bind m ≡ false
 ext_no_bind m t = ap (λ n. passes (same_kind Bind) (kind_of_tag n)) (same_number (tag_of m.rest) 0x77 t)
 
 module _ (s : Settings) (c u at : ℕ) (place : List Entry) (p : ClientState) (h : ClientLives c place p) (k : EndsOnce c place) where
@@ -218,7 +218,7 @@ module _ (s : Settings) (c u at : ℕ) (place : List Entry) (p : ClientState) (h
   cancels_one : (m : Message) (id : ℕ) (kind : OpKind) → check_at s p m ≡ Cancels id kind → Once None (what.In m.id m.rest ∷ what.Out id (cancel_answer kind C13) ∷ canceled m.id (kind_of m.rest) S1)
   cancels_one m id kind e = by (kind_of m.rest)
     where
-      it : Named (facts_of p) m id × ((m.id == 0) ≡ false)
+      it : Named (facts_of p) m id kind × ((m.id == 0) ≡ false)
       it = cancel_named s (facts_of p) m id kind e
 
       tag : (tag_of m.rest == 0x77) ≡ true
@@ -345,7 +345,7 @@ module _ (s : Settings) (c u at : ℕ) (place : List Entry) (p : ClientState) (h
   pub sever_once : (why : EndWhy) → Once None (where_so (is_present p) (act (what.Gone why ∷ []) (closing p))).whats
   sever_once why = so_once (is_present p) (act (what.Gone why ∷ []) (closing p)) None (zero None (what.Gone why ∷ []) refl)
 
-event_once : (s : Settings) (c : ℕ) (place : List Entry) (p : ClientState) (x : Event) → ClientLives c place p → EndsOnce c place → EndsOnce c (place ++ entries (made (client_event s) p x))
+pub event_once : (s : Settings) (c : ℕ) (place : List Entry) (p : ClientState) (x : Event) → ClientLives c place p → EndsOnce c place → EndsOnce c (place ++ entries (made (client_event s) p x))
 event_once s c place p (Comes input) h k = input_once s c p.number (moment_for p.moment input) place p h k input
 event_once s c place p (Severed now why) h k = by (is_link_reason why)
   where

@@ -1,6 +1,6 @@
 -- The turns of a client, a case each: what holds in each case holds of each turn.
-use Rattle.std.proofs.Common.{◌≡◌, ℕ, max, Bool, true, false, ◌&&◌, not, List, [], ◌∷◌, refl}
-use Rattle.std.specs.Prelude.{Option, Some, None}
+use Rattle.std.proofs.Common.{◌≡◌, ℕ, max, Bool, true, false, ◌&&◌, not, List, [], ◌∷◌, refl, ap}
+use Rattle.std.specs.Prelude.{Option, Some, None, if◌then◌else◌}
 use Rattle.std.specs.List.{list_any}
 use Rattle.ldap_spec.specs.Messages.{Message}
 use Rattle.lload_names.specs.declared.names.OpName.{OpName}
@@ -17,7 +17,9 @@ use Rattle.lload_names.specs.declared.inputs.Input.TheVariants.{Arrive, Message 
 use Rattle.lload_names.specs.declared.inputs.Effects.{Effects}
 use Rattle.lload_spec.specs.Settings.{Settings}
 use Rattle.lload_spec.specs.Entries.{is_link_reason, same_why}
+use Rattle.lload_spec.specs.Journal.{same_op}
 use Rattle.part_spec.specs.Marked.{Marked, Taken}
+use Rattle.part_spec.specs.Share.{reply_rest}
 use Rattle.part_spec.specs.Inputs.{Act, act, nothing, marked_by}
 use Rattle.part_spec.specs.ClientState.{ClientState, ClientRow, check_at, is_present, is_holding, row_named}
 use Rattle.part_spec.specs.ClientTurn.{closing, refused, noticed, whats_by, whats_for, by_check, message, letter, link_gone, stalls, flows, where_so, client_sever}
@@ -43,7 +45,7 @@ pub record Cases (s : Settings) (p : ClientState) (P : List Marked → Type 0) :
   pub chosen : (at : ℕ) (sender : PartName) (op : OpName) (a : Answer) → p.arrived ≡ true → P (client_turn_of p.number at (taken sender (Choice op a)) (what.Chosen op a ∷ whats_for (row_named p op) a))
   pub answered : (at : ℕ) (sender : PartName) (op : OpName) (rest : List ℕ) (is_last : Bool) (who : Option (List ℕ)) (r : ClientRow) → row_named p op ≡ Some r → p.arrived ≡ true → P (client_turn_of p.number at (taken sender (Reply op rest is_last who)) (what.Out r.request.id rest ∷ []))
   pub failed : (at : ℕ) (sender : PartName) (op : OpName) (which : Refusal) (r : ClientRow) → row_named p op ≡ Some r → p.arrived ≡ true → P (client_turn_of p.number at (taken sender (Failed op which)) (refused r.request which))
-  pub late : (at : ℕ) (mark : Option Taken) (op : OpName) → row_named p op ≡ None → p.arrived ≡ true → P (client_turn_of p.number at mark (what.Late op ∷ []))
+  pub late : (at : ℕ) (mark : Option Taken) (op : OpName) → row_named p op ≡ None → p.arrived ≡ true → ((n : OpName) → same_op n op ≡ false → reply_rest n mark ≡ []) → P (client_turn_of p.number at mark (what.Late op ∷ []))
   pub breaks : (at : ℕ) (why : EndWhy) → is_present p ≡ true → is_link_reason why ≡ true → is_noticed_why why ≡ true → P (client_turn_of p.number at None (noticed why))
   pub severed : (at : ℕ) (why : EndWhy) → is_present p ≡ true → is_link_reason why ≡ true → P (client_turn_of p.number at None (what.Gone why ∷ []))
   pub stalls : (at : ℕ) → is_present p ≡ true → P (client_turn_of p.number at None (what.Stalled ∷ []))
@@ -59,7 +61,7 @@ any_case s p P f =
       chosen = λ at sender op a here. f at (taken sender (Choice op a)) (what.Chosen op a ∷ whats_for (row_named p op) a);
       answered = λ at sender op rest is_last who r e here. f at (taken sender (Reply op rest is_last who)) (what.Out r.request.id rest ∷ []);
       failed = λ at sender op which r e here. f at (taken sender (Failed op which)) (refused r.request which);
-      late = λ at mark op e here. f at mark (what.Late op ∷ []);
+      late = λ at mark op e here about. f at mark (what.Late op ∷ []);
       breaks = λ at why h e n. f at None (noticed why);
       severed = λ at why here e. f at None (what.Gone why ∷ []);
       stalls = λ at here. f at None (what.Stalled ∷ []);
@@ -93,7 +95,7 @@ module _ (s : Settings) (p : ClientState) (P : List Marked → Type 0) (k : Case
       state o = elim o [ None ↦ act (what.Late op ∷ []) [] | Some r ↦ act (what.Out r.request.id rest ∷ []) [] ]
 
       by : (o : Option ClientRow) → row_named p op ≡ o → Of at (taken sender (Reply op rest is_last who)) (state o)
-      by None e = k.late at (taken sender (Reply op rest is_last who)) op e here
+      by None e = k.late at (taken sender (Reply op rest is_last who)) op e here (λ n h. ap (λ b. if b then rest ∷ [] else []) h)
       by (Some r) e = k.answered at sender op rest is_last who r e here
   letter_case at sender (Failed op which) here = by (row_named p op) refl
     where
@@ -101,7 +103,7 @@ module _ (s : Settings) (p : ClientState) (P : List Marked → Type 0) (k : Case
       state o = elim o [ None ↦ act (what.Late op ∷ []) [] | Some r ↦ act (refused r.request which) [] ]
 
       by : (o : Option ClientRow) → row_named p op ≡ o → Of at (taken sender (Failed op which)) (state o)
-      by None e = k.late at (taken sender (Failed op which)) op e here
+      by None e = k.late at (taken sender (Failed op which)) op e here (λ n h. refl)
       by (Some r) e = k.failed at sender op which r e here
   letter_case at sender _ here = k.none
 

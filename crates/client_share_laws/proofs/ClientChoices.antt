@@ -172,7 +172,7 @@ module _ (c : ℕ) (answer : Answer) (which : Refusal) (tells : (r : ClientRow) 
           chosen = λ at sender op a here. ap (each_split_from (is_choice_told c answer which) place) (entries_marked (taken sender (Choice op a)) (entries_of (Client p.number) at (what.Chosen op a ∷ whats_for (row_named p op) a))) ∙ both (is_choice_told c answer which place (record { part = Client p.number; at = at; what = what.Chosen op a }) (entries_of (Client p.number) at (whats_for (row_named p op) a))) _ (chosen_told at op a) (told_none p.number at (whats_for (row_named p op) a) (place ++ record { part = Client p.number; at = at; what = what.Chosen op a } ∷ []) (choice_all is_unchosen (λ id rest. refl) (row_named p op) a));
           answered = λ at sender op rest is_last who r e here. plain at (taken sender (Reply op rest is_last who)) (what.Out r.request.id rest ∷ []) refl;
           failed = λ at sender op why r e here. plain at (taken sender (Failed op why)) (refused r.request why) (refused_all is_unchosen (λ id rest. refl) r.request why);
-          late = λ at mark op e here. plain at mark (what.Late op ∷ []) refl;
+          late = λ at mark op e here about. plain at mark (what.Late op ∷ []) refl;
           breaks = λ at why there e n. plain at None (noticed why) refl;
           severed = λ at why here e. plain at None (what.Gone why ∷ []) refl;
           stalls = λ at here. plain at None (what.Stalled ∷ []) refl;

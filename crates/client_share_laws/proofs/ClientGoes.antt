@@ -135,7 +135,7 @@ module _ (s : Settings) (c : ℕ) where
           chosen = λ at sender op a here. caused_none p.number at (what.Chosen op a ∷ whats_for (row_named p op) a) (taken sender (Choice op a)) before (choice_all is_ungone (λ id rest. refl) (row_named p op) a);
           answered = λ at sender op rest is_last who r e here. refl;
           failed = λ at sender op which r e here. caused_none p.number at (refused r.request which) (taken sender (Failed op which)) before (refused_all is_ungone (λ id rest. refl) r.request which);
-          late = λ at mark op e here. refl;
+          late = λ at mark op e here about. refl;
           breaks = λ at why there e n. both (has_gone_cause s c (before ++ record { entry = record { part = Client p.number; at = at; what = what.Out 0 protocol_error_notice }; mark = None } ∷ []) why) true (link_causes (before ++ record { entry = record { part = Client p.number; at = at; what = what.Out 0 protocol_error_notice }; mark = None } ∷ []) why e) refl;
           severed = λ at why here e. both (has_gone_cause s c before why) true (link_causes before why e) refl;
           stalls = λ at here. refl;

@@ -129,7 +129,7 @@ module _ (s : Settings) (place : List Entry) (p : ClientState) (ids : HaveIds p)
         chosen = λ at sender op a here. turn at (taken sender (Choice op a)) (what.Chosen op a ∷ whats_for (row_named p op) a) (unnoticed_placed p.number at (what.Chosen op a ∷ whats_for (row_named p op) a) place (choice_unnoticed op a));
         answered = λ at sender op rest is_last who r e here. turn at (taken sender (Reply op rest is_last who)) (what.Out r.request.id rest ∷ []) (unnoticed_placed p.number at (what.Out r.request.id rest ∷ []) place (both (not (r.request.id == 0)) true (ap not (named_id op r e)) refl));
         failed = λ at sender op which r e here. turn at (taken sender (Failed op which)) (refused r.request which) (unnoticed_placed p.number at (refused r.request which) place (refused_unnoticed r.request which (named_id op r e)));
-        late = λ at mark op e here. turn at mark (what.Late op ∷ []) refl;
+        late = λ at mark op e here about. turn at mark (what.Late op ∷ []) refl;
         breaks = λ at why h e n. turn at None (noticed why) (both (is_noticed_why why) true n refl);
         severed = λ at why h e. turn at None (what.Gone why ∷ []) refl;
         stalls = λ at h. turn at None (what.Stalled ∷ []) refl;

@@ -163,7 +163,7 @@ module _ (s : Settings) (place : List Entry) (p : ClientState) (arrived : is_emp
         chosen = λ at sender op a here. turn at (taken sender (Choice op a)) (what.Chosen op a ∷ whats_for (row_named p op) a) (choice_ordered at op a here);
         answered = λ at sender op rest is_last who r e here. turn at (taken sender (Reply op rest is_last who)) (what.Out r.request.id rest ∷ []) (plain_ordered p.number at (what.Out r.request.id rest ∷ []) place (begun here) (open_row op r e) refl);
         failed = λ at sender op which r e here. turn at (taken sender (Failed op which)) (refused r.request which) (plain_ordered p.number at (refused r.request which) place (begun here) (open_row op r e) (refused_all (λ w. is_plain w && not (is_gone (record { part = Client p.number; at = at; what = w }))) (λ id rest. refl) r.request which));
-        late = λ at mark op e here. turn at mark (what.Late op ∷ []) (both (in_order place (record { part = Client p.number; at = at; what = what.Late op })) true (entry_ordered place (record { part = Client p.number; at = at; what = what.Late op }) refl (begun here) (always (list_any is_gone place))) refl);
+        late = λ at mark op e here about. turn at mark (what.Late op ∷ []) (both (in_order place (record { part = Client p.number; at = at; what = what.Late op })) true (entry_ordered place (record { part = Client p.number; at = at; what = what.Late op }) refl (begun here) (always (list_any is_gone place))) refl);
         breaks = λ at why h e n. turn at None (noticed why) (first_ordered p.number at (what.Out 0 protocol_error_notice) (what.Gone why ∷ []) place (begun (left p.arrived _ h)) (open_there h) refl (gone_ordered p.number at why (place ++ record { part = Client p.number; at = at; what = what.Out 0 protocol_error_notice } ∷ []) (empty_more place (record { part = Client p.number; at = at; what = what.Out 0 protocol_error_notice })) (none_of_both is_gone place (record { part = Client p.number; at = at; what = what.Out 0 protocol_error_notice } ∷ []) (open_there h) refl)));
         severed = λ at why h e. turn at None (what.Gone why ∷ []) (gone_ordered p.number at why place (begun (left p.arrived _ h)) (open_there h));
         stalls = λ at h. turn at None (what.Stalled ∷ []) (plain_ordered p.number at (what.Stalled ∷ []) place (begun (left p.arrived _ h)) (open_there h) refl);

@@ -195,7 +195,7 @@ module _ (c : ℕ) where
           chosen = λ at sender op a here. turn at (taken sender (Choice op a)) (what.Chosen op a ∷ whats_for (row_named p op) a) (choice_right at op a);
           answered = λ at sender op rest is_last who r e here. turn at (taken sender (Reply op rest is_last who)) (what.Out r.request.id rest ∷ []) (both (is_right_out place (record { part = Client p.number; at = at; what = what.Out r.request.id rest }) []) true (out_right p.number at r.request.id rest place [] (row_has op r e) (row_there op r e)) refl);
           failed = λ at sender op which r e here. turn at (taken sender (Failed op which)) (refused r.request which) (refused_right p.number at r.request which place (λ kind q. row_has op r e) (row_there op r e));
-          late = λ at mark op e here. turn at mark (what.Late op ∷ []) refl;
+          late = λ at mark op e here about. turn at mark (what.Late op ∷ []) refl;
           breaks = λ at why e f n. turn at None (noticed why) (both (is_right_out place (record { part = Client p.number; at = at; what = what.Out 0 protocol_error_notice }) (entries_of (Client p.number) at (what.Gone why ∷ []))) true (both (is_owned c place (record { part = Client p.number; at = at; what = what.Out 0 protocol_error_notice }) (entries_of (Client p.number) at (what.Gone why ∷ []))) _ (or_right (is_out_of_some c place (record { part = Client p.number; at = at; what = what.Out 0 protocol_error_notice })) true refl) (ap not (present e))) refl);
           severed = λ at why here e. turn at None (what.Gone why ∷ []) refl;
           stalls = λ at here. turn at None (what.Stalled ∷ []) refl;

@@ -15,7 +15,7 @@ use Rattle.lload_spec.proofs.Growth.{left, right, both}
 use Rattle.lload_laws.proofs.ListLaws.{all_imply, all_both}
 use Rattle.part_laws.proofs.ListLaws.{same_op_refl, same_op_sym, not_true}
 
-abbrev are_apart : List Operation → Bool
+abbrev pub are_apart : List Operation → Bool
 are_apart [] = true
 are_apart (o ∷ os) = list_all (λ q. not (same_op o.name q.name)) os && are_apart os
 
@@ -36,7 +36,7 @@ other_above c n op h = by (c == op.client) (n == op.k) refl
     by true false e = refl
     by true true e = absurd (grind (arith, nat_tests, h, e))
 
-named_apart : (c k : ℕ) (before L : List Entry) → are_apart (operations_from c k before L) ≡ true
+pub named_apart : (c k : ℕ) (before L : List Entry) → are_apart (operations_from c k before L) ≡ true
 named_apart c k before [] = refl
 named_apart c k before (e ∷ L) = more (operation_message e.what) (λ n. named_apart c n (before ++ e ∷ []) L)
   where

@@ -166,7 +166,7 @@ module _ (s : Settings) (p : ClientState) (h : list_all has_kind p.rows ≡ true
         chosen = λ at sender op a here. kinds_through s p.number at (what.Chosen op a ∷ whats_for (row_named p op) a) (taken sender (Choice op a)) p h (choice_all is_kinded (λ id rest. refl) (row_named p op) a);
         answered = λ at sender op rest is_last who r e here. kinds_through s p.number at (what.Out r.request.id rest ∷ []) (taken sender (Reply op rest is_last who)) p h refl;
         failed = λ at sender op which r e here. kinds_through s p.number at (refused r.request which) (taken sender (Failed op which)) p h (refused_all is_kinded (λ id rest. refl) r.request which);
-        late = λ at mark op e here. kinds_through s p.number at (what.Late op ∷ []) mark p h refl;
+        late = λ at mark op e here about. kinds_through s p.number at (what.Late op ∷ []) mark p h refl;
         breaks = λ at why there e n. ap (list_all has_kind) (rows_ended s p.number at (what.Out 0 protocol_error_notice ∷ []) why None p);
         severed = λ at why here e. ap (list_all has_kind) (rows_ended s p.number at [] why None p);
         stalls = λ at here. kinds_through s p.number at (what.Stalled ∷ []) None p h refl;

@@ -124,7 +124,7 @@ module _ (s : Settings) (p : ClientState) (h : p.gone ≡ true → p.rows ≡ []
         chosen = λ at sender op a here. told at (taken sender (Choice op a)) (what.Chosen op a ∷ whats_for (row_named p op) a) (choice_all is_told (λ id rest. refl) (row_named p op) a) (choice_all is_stay (λ id rest. refl) (row_named p op) a);
         answered = λ at sender op rest is_last who r e here. told at (taken sender (Reply op rest is_last who)) (what.Out r.request.id rest ∷ []) refl refl;
         failed = λ at sender op which r e here. told at (taken sender (Failed op which)) (refused r.request which) (refused_all is_told (λ id rest. refl) r.request which) (refused_all is_stay (λ id rest. refl) r.request which);
-        late = λ at mark op e here. told at mark (what.Late op ∷ []) refl refl;
+        late = λ at mark op e here about. told at mark (what.Late op ∷ []) refl refl;
         breaks = λ at why e f n g. rows_ended s p.number at (what.Out 0 protocol_error_notice ∷ []) why None p;
         severed = λ at why here e g. rows_ended s p.number at [] why None p;
         stalls = λ at here. told at None (what.Stalled ∷ []) refl refl;
