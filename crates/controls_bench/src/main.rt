@@ -56,7 +56,7 @@ fn read(times: u32) -> Result<u64> {
     Ok(found)
 }
 
-/// How many of as many rests have the control that was put first.
+/// How many octets the rest has with the control put first, as often as it is made.
 fn put_first(alloc: Global, times: u32) -> Result<u64> {
     let mut octets = 0u64;
     for _ in 0..times {
@@ -132,7 +132,8 @@ fn main(rt: HostRuntime) -> Result<()> {
             let table = restricted(rt.alloc())?;
             let controls = read(1)?;
             let octets = put_first(rt.alloc(), 1)?;
-            let actions = rejected(&table, REQUEST, 1)? + rejected(&table, EXTENDED, 1)?;
+            let named = rejected(&table, EXTENDED, 1)?;
+            let actions = rejected(&table, REQUEST, 1)?.saturating_add(named);
             let known = has(REQUEST, b"1.2.3");
             println!(rt;
                 "controls_bench: {controls} controls, {octets} octets with one more, {actions} of 2 requests rejected, 1.2.3 found: {known}"

@@ -8,6 +8,9 @@ use ldap_messages::{first_part, tagged_part};
 use lload_names::{Body, NoMemory};
 use std::alloc::Global;
 
+/// The room, in octets, that a control is written into at first; a list that is no longer takes no further memory.
+const USUAL_ROOM: usize = 128;
+
 /// The rest with a control put first in its list, written with the shortest lengths; where there was no list, one stands
 /// directly behind the operation (RFC 4511, section 4.1.11). The operation, the other controls and what stands behind
 /// the list stay as they were; a rest without a whole operation is given as it is.
@@ -68,7 +71,7 @@ fn written_control(alloc: Global, control: &Control<'_>) -> Result<Vec<u8>, NoMe
     requires { octets_of (control_view control.now) ≤ 1048576000 }
     ensures { IfOk result (λ bytes. bytes.items ≡ written_control (control_view control.now)) }
 {
-    let mut fields = Vec::new(alloc);
+    let mut fields = Vec::with_capacity(alloc, USUAL_ROOM)?;
     write_element(0x04, control.oid, &mut fields)?;
     if control.critical {
         fields.extend_from_slice(&[0x01, 0x01, 0xFF])?;
@@ -76,7 +79,7 @@ fn written_control(alloc: Global, control: &Control<'_>) -> Result<Vec<u8>, NoMe
     if let Some(value) = control.value {
         write_element(0x04, value, &mut fields)?;
     }
-    let mut bytes = Vec::new(alloc);
+    let mut bytes = Vec::with_capacity(alloc, USUAL_ROOM)?;
     write_element(0x30, fields.as_slice(), &mut bytes)?;
     Ok(bytes)
 }
