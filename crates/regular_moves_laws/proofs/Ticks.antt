@@ -93,9 +93,6 @@ module _ (s : Settings) (b : Book) (u at : ℕ) (p : ConnectionState) (number : 
   live : y.row.rows r.op.client r.op.k ≡ true
   live = each_found (AreLive y.row.rows) (λ q. same_op r.op q.op) l.state.rows r found (all_live y.row.rows l.state.rows rows_are.ops)
 
-  abbrev left_rows : List UpRow
-  left_rows = filter (λ q. not (same_op r.op q.op)) l.state.rows
-
   abbrev next : ConnectionLedger
   next = step_connection_ledger s l (marked_up l.state.number at None (what.Expired r.op))
 
@@ -106,9 +103,6 @@ module _ (s : Settings) (b : Book) (u at : ℕ) (p : ConnectionState) (number : 
       each : (rs : List UpRow) → list_all (λ q. not (r.id == q.id)) rs ≡ true → Each (λ q. not (q.id == r.id) ≡ true) rs
       each [] e = tt
       each (q ∷ rs) e = (ap not (eqb_sym q.id r.id) ∙ left (not (r.id == q.id)) _ e, each rs (right (not (r.id == q.id)) _ e))
-
-  abbrev finished_side : ConnSide
-  finished_side = conn_move false y (Finishing r.op.client r.op.k true false)
 
   first_stands : RegularStands s b u (step_connection_ledger s l (marked_up l.state.number at None (what.Expired r.op))) (conn_move false y (Finishing r.op.client r.op.k true false)).row
   first_stands = stands_expired s b u l.state.number at r l y.row (conn_move false y (Finishing r.op.client r.op.k true false)).row h there (finish_is y r.op.client r.op.k true live ∙ ap (λ (x : ℕ → ℕ → Bool). record y.row { rows = put2 y.row.rows r.op.client r.op.k false; answered = x }) (ap (λ (x : Conn). x.answered) (sym (finish_is y r.op.client r.op.k true live))))

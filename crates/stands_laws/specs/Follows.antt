@@ -188,7 +188,7 @@ pub record BindEnds (s : Settings) (b : Book) (u now : ℕ) (why : EndWhy) (l : 
 abbrev pub BindEndsLaw : Type 0
 BindEndsLaw =
     (s : Settings) (b : Book) (u now : ℕ) (why : EndWhy) (l : ConnectionLedger) (y : ConnSide)
-    → serves s u ≡ true → BindStands s b u l y.row → BindEnds s b u now why l y
+    → BindStands s b u l y.row → BindEnds s b u now why l y
 
 -- The desk.
 
