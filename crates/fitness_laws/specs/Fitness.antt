@@ -17,7 +17,7 @@ use Rattle.move_laws.specs.World as machine
 use Rattle.move_laws.specs.AgreeBinds.{Holds}
 use Rattle.stands_laws.specs.Books.{Book}
 use Rattle.stands_laws.specs.ClientStands.{kinds_of}
-use Rattle.stands_laws.specs.Follows.{BindEndsLaw, BindFollowsLaw, RegularEndsLaw, RegularFollowsLaw}
+use Rattle.stands_laws.specs.Follows.{BindEndsLaw, BindFollowsLaw}
 use Rattle.stands_laws.specs.WorldStands.{WorldStands}
 
 -- the letter that waits first between two parts is fit where it will be taken
@@ -58,15 +58,13 @@ FitnessLaw = (s : Settings) (ms : List PartMove) → IsFitWorld s (world_of s ms
 abbrev pub MarksLaw : Type 0
 MarksLaw = (s : Settings) (ms : List PartMove) → IsTrue (marks_moves s empty_world ms)
 
--- The turns of connections of both kinds, and the ends of their links, make what moves of the machine make.
-pub record ConnectionsMakeMoves : Type 0 where
-  pub regular : RegularFollowsLaw
-  pub regular_ends : RegularEndsLaw
-  pub bind : BindFollowsLaw
-  pub bind_ends : BindEndsLaw
+-- The turns of bind connections, and the ends of their links, make what moves of the machine make.
+pub record BindConnectionsMakeMoves : Type 0 where
+  pub follows : BindFollowsLaw
+  pub ends : BindEndsLaw
 
--- So what each part gave another is what this one took, and then what waits; each mark has a greater stamp than its letter;
--- and where links end for reasons that a link has, the lists of the parts are linked.
+-- So what each part gave another is what this one took, and then what waits; each mark has a greater stamp than its
+-- letter; and where links end for reasons that a link has, the lists of the parts are linked.
 abbrev pub AlwaysLinks : Type 0
 AlwaysLinks = (s : Settings) (ms : List PartMove) → Links (world_of s ms)
 

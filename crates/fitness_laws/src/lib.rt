@@ -5,7 +5,7 @@
 #![tactic(auto)]
 
 ghost use Rattle.stands_laws.specs.Laws.{BookLaw};
-ghost use Rattle.fitness_laws.specs.Fitness.{AlwaysLater, AlwaysLinked, AlwaysLinks, ConnectionsMakeMoves, FirstFitLaw, FitnessLaw, MarksLaw, RulesLaw};
+ghost use Rattle.fitness_laws.specs.Fitness.{AlwaysLater, AlwaysLinked, AlwaysLinks, BindConnectionsMakeMoves, FirstFitLaw, FitnessLaw, MarksLaw, RulesLaw};
 
 /// Each run has a book from the beginning: the request of each of its operations, with its action, and whether it goes on in
 /// an exchange.
@@ -24,19 +24,19 @@ pub fn waiting_letters_have_rules()
     ensures { RulesLaw }
 {}
 
-/// Where the turns of connections of both kinds make what moves of the machine make, each letter of each part's list was fit
-/// where it was taken, each that waits has a rule, and each that was taken left a mark, whatever moves the parts make.
-pub fn letters_are_fit_where_connections_make_moves()
-    ensures fitness { ConnectionsMakeMoves → FitnessLaw }
-    ensures marks { ConnectionsMakeMoves → MarksLaw }
+/// Where the turns of bind connections make what moves of the machine make, each letter of each part's list was fit where it
+/// was taken, each that waits has a rule, and each that was taken left a mark, whatever moves the parts make.
+pub fn letters_are_fit_where_bind_connections_make_moves()
+    ensures fitness { BindConnectionsMakeMoves → FitnessLaw }
+    ensures marks { BindConnectionsMakeMoves → MarksLaw }
 {}
 
 /// So there each part took what another gave it, in order, and no letter before it was given; and where links end for reasons
 /// that a link has, the lists of the parts are linked.
-pub fn parts_are_linked_where_connections_make_moves()
-    ensures links { ConnectionsMakeMoves → AlwaysLinks }
-    ensures later { ConnectionsMakeMoves → AlwaysLater }
-    ensures linked { ConnectionsMakeMoves → AlwaysLinked }
+pub fn parts_are_linked_where_bind_connections_make_moves()
+    ensures links { BindConnectionsMakeMoves → AlwaysLinks }
+    ensures later { BindConnectionsMakeMoves → AlwaysLater }
+    ensures linked { BindConnectionsMakeMoves → AlwaysLinked }
 {
     link_laws::links_hold();
     link_laws::worlds_are_linked();

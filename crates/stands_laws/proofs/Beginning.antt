@@ -59,7 +59,7 @@ no_regular s b u = record {
     holder = refl;
     nobody = refl;
     now = refl;
-    stands = λ _. record { ops = λ c k. refl; each = tt; apart = tt; free = tt; waits = λ e. absurd (cc); unused = λ _. refl };
+    stands = λ _. record { ops = λ c k. refl; each = tt; apart = tt; free = tt; begun = λ _. refl; waits = λ e. absurd (cc); unused = λ _. refl };
     fallen = λ e. absurd (cc);
   };
   undrained = refl;

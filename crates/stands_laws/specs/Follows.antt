@@ -158,7 +158,7 @@ pub record RegularEnds (s : Settings) (b : Book) (u now : ℕ) (why : EndWhy) (l
 abbrev pub RegularEndsLaw : Type 0
 RegularEndsLaw =
     (s : Settings) (b : Book) (u now : ℕ) (why : EndWhy) (l : ConnectionLedger) (y : ConnSide)
-    → RegularIs s b u l y.row → RegularEnds s b u now why l y
+    → serves s u ≡ false → RegularIs s b u l y.row → RegularEnds s b u now why l y
 
 -- A bind connection.
 pub record BindActs (s : Settings) (b : Book) (u at : ℕ) (mark : Option Taken) (l : ConnectionLedger) (a : Act) (y : ConnSide) (ms : List ConnMove)

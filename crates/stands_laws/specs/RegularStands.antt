@@ -70,7 +70,9 @@ pub record RegularRows (b : Book) (p : ConnectionState) (v : Conn) : Type 0 wher
   pub each : Each (RowIs b p.ids.next) p.rows
   pub apart : EachTwo AreApart p.rows
   pub free : Each (IsFree p.ids.next p.rows) p.ids.free
-  -- while the own Bind waits, the connection isn't up, and before this nothing was forwarded to it
+  -- no own Bind waits before the connection is linked; while one waits, it isn't up, and before this nothing was forwarded
+  -- to it
+  pub begun : p.linked ≡ false → p.own_bind ≡ None
   pub waits : is_some p.own_bind ≡ true → p.up ≡ false
   pub unused : p.up ≡ false → p.rows ≡ []
 

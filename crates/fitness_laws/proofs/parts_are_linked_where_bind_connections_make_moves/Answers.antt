@@ -1,5 +1,5 @@
 use Rattle.fitness_laws.proofs.WorldMoves.{fitness, marks}
-use Rattle.fitness_laws.proofs.parts_are_linked_where_connections_make_moves.Goals as goal
+use Rattle.fitness_laws.proofs.parts_are_linked_where_bind_connections_make_moves.Goals as goal
 
 pub returns-clause-links : goal.returns-clause-links
 returns-clause-links c h s ms = c.links_hold.ensures.links s ms (marks h s ms)

@@ -1,0 +1,14 @@
+pub mod Rows
+pub mod Gives
+pub mod Taken
+pub mod Steps
+pub mod Ends
+pub mod Messages
+pub mod Turns
+pub mod MessageTurns
+pub mod Sends
+pub mod Orders
+pub mod Ticks
+pub mod Begins
+pub mod Drained
+pub mod Follows
