@@ -16,3 +16,4 @@ pub mod Fits
 pub mod WorldTurns
 pub mod WorldConnections
 pub mod WorldMoves
+pub mod Linked

@@ -4,15 +4,12 @@ use Rattle.std.specs.List.{list_all}
 use Rattle.lload_names.specs.declared.inputs.Input.TheVariants.{LetterFrom}
 use Rattle.lload_names.specs.declared.names.Letter.{Letter}
 use Rattle.lload_names.specs.declared.names.PartName.{PartName}
-use Rattle.lload_spec.specs.Journal.{family}
 use Rattle.lload_spec.specs.Settings.{Settings}
 use Rattle.part_spec.specs.Fit.{is_all_fit, is_fit}
-use Rattle.part_spec.specs.Linked.{Linked}
 use Rattle.part_spec.specs.Merge.{PartMove, world_of}
-use Rattle.part_spec.specs.Stamps.{are_later, stamps_given, stamps_taken}
-use Rattle.part_spec.specs.World.{World, empty_world, journal_of, list_in, turn_of, turns_in}
+use Rattle.part_spec.specs.World.{World, empty_world, list_in, turn_of}
 use Rattle.link_laws.specs.Laws.{StatesAreOfLists}
-use Rattle.link_laws.specs.Moves.{Links, end_rightly, has_entry, marks_moves, waiting_between}
+use Rattle.link_laws.specs.Moves.{has_entry, marks_moves, waiting_between}
 use Rattle.move_laws.specs.World as machine
 use Rattle.move_laws.specs.AgreeBinds.{Holds}
 use Rattle.stands_laws.specs.Books.{Book}
@@ -62,18 +59,3 @@ MarksLaw = (s : Settings) (ms : List PartMove) → IsTrue (marks_moves s empty_w
 pub record BindConnectionsMakeMoves : Type 0 where
   pub follows : BindFollowsLaw
   pub ends : BindEndsLaw
-
--- So what each part gave another is what this one took, and then what waits; each mark has a greater stamp than its
--- letter; and where links end for reasons that a link has, the lists of the parts are linked.
-abbrev pub AlwaysLinks : Type 0
-AlwaysLinks = (s : Settings) (ms : List PartMove) → Links (world_of s ms)
-
-abbrev pub AlwaysLater : Type 0
-AlwaysLater =
-    (s : Settings) (ms : List PartMove) (p q : PartName)
-    → IsTrue (are_later (stamps_given q (turns_in (world_of s ms) p)) (stamps_taken p (turns_in (world_of s ms) q)))
-
-abbrev pub AlwaysLinked : Type 0
-AlwaysLinked =
-    (s : Settings) (ms : List PartMove) → IsTrue (end_rightly ms)
-    → Linked s (family (journal_of (world_of s ms))) (list_in (world_of s ms))

@@ -5,7 +5,8 @@
 #![tactic(auto)]
 
 ghost use Rattle.stands_laws.specs.Laws.{BookLaw};
-ghost use Rattle.fitness_laws.specs.Fitness.{AlwaysLater, AlwaysLinked, AlwaysLinks, BindConnectionsMakeMoves, FirstFitLaw, FitnessLaw, MarksLaw, RulesLaw};
+ghost use Rattle.fitness_laws.specs.Fitness.{BindConnectionsMakeMoves, FirstFitLaw, FitnessLaw, MarksLaw, RulesLaw};
+ghost use Rattle.fitness_laws.specs.Linked.{AllTakenAtRest, AlwaysGives, AlwaysLater, AlwaysLinked, AlwaysLinks};
 
 /// Each run has a book from the beginning: the request of each of its operations, with its action, and whether it goes on in
 /// an exchange.
@@ -31,13 +32,19 @@ pub fn letters_are_fit_where_bind_connections_make_moves()
     ensures marks { BindConnectionsMakeMoves → MarksLaw }
 {}
 
-/// So there each part took what another gave it, in order, and no letter before it was given; and where links end for reasons
-/// that a link has, the lists of the parts are linked.
+/// So there what each part gave another is what this one took, in order, and then what waits, and each mark has a greater
+/// stamp than its letter. Where links end for reasons that a link has, the lists of the parts are linked, what each part gave
+/// is what its list gives, and where nothing waits all of it was taken.
 pub fn parts_are_linked_where_bind_connections_make_moves()
     ensures links { BindConnectionsMakeMoves → AlwaysLinks }
     ensures later { BindConnectionsMakeMoves → AlwaysLater }
     ensures linked { BindConnectionsMakeMoves → AlwaysLinked }
+    ensures gives { BindConnectionsMakeMoves → AlwaysGives }
+    ensures at_rest { BindConnectionsMakeMoves → AllTakenAtRest }
 {
     link_laws::links_hold();
     link_laws::worlds_are_linked();
+    link_laws::the_desk_is_linked();
+    link_laws::clients_are_linked();
+    link_laws::connections_are_linked();
 }
