@@ -1,14 +1,16 @@
 -- How the parts' lists are linked in each world that moves make.
-use Rattle.std.specs.Prelude.{◌≡◌, List, [], IsTrue}
+use Rattle.std.specs.Prelude.{◌≡◌, ℕ, List, [], IsTrue}
 use Rattle.lload_names.specs.declared.names.PartName.{PartName}
+use Rattle.lload_names.specs.declared.names.PartName.TheVariants.{Desk, Up as Connection}
 use Rattle.lload_spec.specs.Journal.{family}
 use Rattle.lload_spec.specs.Settings.{Settings}
 use Rattle.part_spec.specs.Gives.{gives}
 use Rattle.part_spec.specs.Linked.{Linked}
 use Rattle.part_spec.specs.Marked.{letters_to, taken_from}
 use Rattle.part_spec.specs.Merge.{PartMove, world_of}
+use Rattle.part_spec.specs.Share.{ConnectionShare, DeskShare}
 use Rattle.part_spec.specs.Stamps.{are_later, stamps_given, stamps_taken}
-use Rattle.part_spec.specs.World.{given_in, journal_of, list_in, turns_in}
+use Rattle.part_spec.specs.World.{World, given_in, journal_of, list_in, turns_in}
 use Rattle.link_laws.specs.Moves.{Links, end_rightly}
 
 -- what each part gave another is what this one took, and then what waits
@@ -38,3 +40,11 @@ abbrev pub AllTakenAtRest : Type 0
 AllTakenAtRest =
     (s : Settings) (ms : List PartMove) (p q : PartName) → IsTrue (end_rightly ms) → (world_of s ms).letters ≡ []
     → taken_from p (list_in (world_of s ms) q) ≡ letters_to q (gives s p (list_in (world_of s ms) p))
+
+-- the desk's list keeps its share of the promises, and so does the list of each connection
+pub record KeepShares (s : Settings) (w : World) : Type 0 where
+  pub desk : DeskShare s (list_in w Desk)
+  pub connections : (u : ℕ) → ConnectionShare s u (list_in w (Connection u))
+
+abbrev pub AlwaysShares : Type 0
+AlwaysShares = (s : Settings) (ms : List PartMove) → IsTrue (end_rightly ms) → KeepShares s (world_of s ms)

@@ -6,7 +6,7 @@
 
 ghost use Rattle.stands_laws.specs.Laws.{BookLaw};
 ghost use Rattle.fitness_laws.specs.Fitness.{BindConnectionsMakeMoves, FirstFitLaw, FitnessLaw, MarksLaw, RulesLaw};
-ghost use Rattle.fitness_laws.specs.Linked.{AllTakenAtRest, AlwaysGives, AlwaysLater, AlwaysLinked, AlwaysLinks};
+ghost use Rattle.fitness_laws.specs.Linked.{AllTakenAtRest, AlwaysGives, AlwaysLater, AlwaysLinked, AlwaysLinks, AlwaysShares};
 
 /// Each run has a book from the beginning: the request of each of its operations, with its action, and whether it goes on in
 /// an exchange.
@@ -34,14 +34,17 @@ pub fn letters_are_fit_where_bind_connections_make_moves()
 
 /// So there what each part gave another is what this one took, in order, and then what waits, and each mark has a greater
 /// stamp than its letter. Where links end for reasons that a link has, the lists of the parts are linked, what each part gave
-/// is what its list gives, and where nothing waits all of it was taken.
+/// is what its list gives, where nothing waits all of it was taken, and the lists of the desk and of connections keep their
+/// shares of the promises, whole.
 pub fn parts_are_linked_where_bind_connections_make_moves()
     ensures links { BindConnectionsMakeMoves → AlwaysLinks }
     ensures later { BindConnectionsMakeMoves → AlwaysLater }
     ensures linked { BindConnectionsMakeMoves → AlwaysLinked }
     ensures gives { BindConnectionsMakeMoves → AlwaysGives }
     ensures at_rest { BindConnectionsMakeMoves → AllTakenAtRest }
+    ensures shares { BindConnectionsMakeMoves → AlwaysShares }
 {
+    part_spec::a_fit_list_begins_with_all_of_it();
     link_laws::links_hold();
     link_laws::worlds_are_linked();
     link_laws::the_desk_is_linked();

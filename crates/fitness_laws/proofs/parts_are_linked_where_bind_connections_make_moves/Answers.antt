@@ -1,5 +1,5 @@
 use Rattle.part_spec.specs.Merge.{world_of}
-use Rattle.fitness_laws.proofs.Linked.{all_give, all_taken}
+use Rattle.fitness_laws.proofs.Linked.{all_give, all_taken, shares_kept}
 use Rattle.fitness_laws.proofs.WorldMoves.{fitness, marks}
 use Rattle.fitness_laws.proofs.parts_are_linked_where_bind_connections_make_moves.Goals as goal
 
@@ -20,3 +20,6 @@ pub returns-clause-at_rest : goal.returns-clause-at_rest
 returns-clause-at_rest c h s ms p q rightly =
     all_taken s (world_of s ms) p q (c.links_hold.ensures.links s ms (marks h s ms))
     (all_give c.the_desk_is_linked.ensures.gives c.clients_are_linked.ensures.gives c.connections_are_linked.ensures.gives (fitness h) s ms p rightly)
+
+pub returns-clause-shares : goal.returns-clause-shares
+returns-clause-shares c h = shares_kept c.a_fit_list_begins_with_all_of_it.ensures (fitness h) (marks h)
