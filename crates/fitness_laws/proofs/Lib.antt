@@ -5,3 +5,15 @@ pub mod FirstLetters
 pub mod Books
 pub mod Ledgers
 pub mod Rules
+pub mod Strangers
+pub mod ClientStrangers
+pub mod ConnectionStrangers
+pub mod Turned
+pub mod ClientTurned
+pub mod ConnectionTurned
+pub mod DeskTurned
+pub mod Fits
+pub mod WorldTurns
+pub mod WorldConnections
+pub mod WorldMoves
+pub mod Linked

@@ -210,7 +210,7 @@ turn_rule s p now word sender letter k place linked kind e = placed (place_at s 
     of_kind Regular i h = subst (λ (z : ConnKind). has_entry (effects_of (Connection p.number) (max p.moment now) (elim z [ Regular ↦ regular_act s p (max p.moment now) (LetterFrom now word sender letter) | BindKind ↦ bind_act s p (max p.moment now) (LetterFrom now word sender letter) ])) ≡ true) (sym i) (so (regular.letter s p letter) h)
     of_kind BindKind i h = subst (λ (z : ConnKind). has_entry (effects_of (Connection p.number) (max p.moment now) (elim z [ Regular ↦ regular_act s p (max p.moment now) (LetterFrom now word sender letter) | BindKind ↦ bind_act s p (max p.moment now) (LetterFrom now word sender letter) ])) ≡ true) (sym i) (so (bind.letter s p letter) h)
 
-kind_known : (k : ConnKind) (t : Bool) → is_kind BindKind k ≡ t → k ≡ (if t then BindKind else Regular)
+pub kind_known : (k : ConnKind) (t : Bool) → is_kind BindKind k ≡ t → k ≡ (if t then BindKind else Regular)
 kind_known Regular true e = absurd (let bad : false ≡ true = e in cc)
 kind_known Regular false e = refl
 kind_known BindKind true e = refl

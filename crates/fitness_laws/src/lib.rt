@@ -5,7 +5,8 @@
 #![tactic(auto)]
 
 ghost use Rattle.stands_laws.specs.Laws.{BookLaw};
-ghost use Rattle.fitness_laws.specs.Fitness.{FirstFitLaw, RulesLaw};
+ghost use Rattle.fitness_laws.specs.Fitness.{BindConnectionsMakeMoves, FirstFitLaw, FitnessLaw, MarksLaw, RulesLaw};
+ghost use Rattle.fitness_laws.specs.Linked.{AllTakenAtRest, AlwaysGives, AlwaysLater, AlwaysLinked, AlwaysLinks, AlwaysShares};
 
 /// Each run has a book from the beginning: the request of each of its operations, with its action, and whether it goes on in
 /// an exchange.
@@ -23,3 +24,30 @@ pub fn first_letters_are_fit()
 pub fn waiting_letters_have_rules()
     ensures { RulesLaw }
 {}
+
+/// Where the turns of bind connections make what moves of the machine make, each letter of each part's list was fit where it
+/// was taken, each that waits has a rule, and each that was taken left a mark, whatever moves the parts make.
+pub fn letters_are_fit_where_bind_connections_make_moves()
+    ensures fitness { BindConnectionsMakeMoves → FitnessLaw }
+    ensures marks { BindConnectionsMakeMoves → MarksLaw }
+{}
+
+/// So there what each part gave another is what this one took, in order, and then what waits, and each mark has a greater
+/// stamp than its letter. Where links end for reasons that a link has, the lists of the parts are linked, what each part gave
+/// is what its list gives, where nothing waits all of it was taken, and the lists of the desk and of connections keep their
+/// shares of the promises, whole.
+pub fn parts_are_linked_where_bind_connections_make_moves()
+    ensures links { BindConnectionsMakeMoves → AlwaysLinks }
+    ensures later { BindConnectionsMakeMoves → AlwaysLater }
+    ensures linked { BindConnectionsMakeMoves → AlwaysLinked }
+    ensures gives { BindConnectionsMakeMoves → AlwaysGives }
+    ensures at_rest { BindConnectionsMakeMoves → AllTakenAtRest }
+    ensures shares { BindConnectionsMakeMoves → AlwaysShares }
+{
+    part_spec::a_fit_list_begins_with_all_of_it();
+    link_laws::links_hold();
+    link_laws::worlds_are_linked();
+    link_laws::the_desk_is_linked();
+    link_laws::clients_are_linked();
+    link_laws::connections_are_linked();
+}

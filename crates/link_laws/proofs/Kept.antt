@@ -60,7 +60,7 @@ module _ (s : Settings) (P : World → Type 0) (out : (sender p : PartName) (w :
     right_moves w (m ∷ ms) k h = right_moves (moved s m.part m.move w) ms (right (move_ends_rightly m.move) _ k) (right_move m.part m.move w (left (move_ends_rightly m.move) _ k) h)
 
 -- the letters in flight say nothing of a part's turn
-same_turn : (s : Settings) (w : World) (sender p : PartName) (i : Intake) → effects_in s (letter_out sender p w) p i ≡ effects_in s w p i
+pub same_turn : (s : Settings) (w : World) (sender p : PartName) (i : Intake) → effects_in s (letter_out sender p w) p i ≡ effects_in s w p i
 same_turn s w sender Desk (Takes i) = refl
 same_turn s w sender (Client c) (Takes i) = refl
 same_turn s w sender (Connection u) (Takes i) = refl

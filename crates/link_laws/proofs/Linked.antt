@@ -20,10 +20,10 @@ use Rattle.link_laws.proofs.ConnectionLinks.{connection_shares_in, connection_li
 
 module _ (fit_is_whole : FitIsWhole) (s : Settings) (ms : List PartMove) (rightly : end_rightly ms ≡ true) (marks : marks_moves s empty_world ms ≡ true) (fit : IsAllFit s (world_of s ms)) where
   -- where each letter was fit, the share is of the whole list
-  desk_share : DeskShare s (list_in (world_of s ms) Desk)
+  pub desk_share : DeskShare s (list_in (world_of s ms) Desk)
   desk_share = subst (PartShare s Desk) (fit_is_whole s Desk (list_in (world_of s ms) Desk) (fit Desk)) (desk_shares_in s ms)
 
-  connection_share : (u : ℕ) → ConnectionShare s u (list_in (world_of s ms) (Connection u))
+  pub connection_share : (u : ℕ) → ConnectionShare s u (list_in (world_of s ms) (Connection u))
   connection_share u = subst (PartShare s (Connection u)) (fit_is_whole s (Connection u) (list_in (world_of s ms) (Connection u)) (fit (Connection u))) (connection_shares_in s ms u rightly)
 
   marked : (p : PartName) → has_right_marks s p (list_in (world_of s ms) p) ≡ true

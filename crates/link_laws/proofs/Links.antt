@@ -69,7 +69,7 @@ given_more s p mark e w a =
     ∙ map-append (λ (f : Flight). f.posted) (filter (λ (f : Flight). same_part a f.from) w.given) (filter (λ (f : Flight). same_part a f.from) (flights p e.letters))
     ∙ ap (λ l. given_in w a ++ l) (flights_given a p (same_part a p) refl e.letters)
 
-waiting_more : (s : Settings) (p : PartName) (mark : Option Taken) (e : Effects) (w : World) (a b : PartName) → waiting_between (behind s p mark e w) a b ≡ waiting_between w a b ++ cond (same_part a p) (letters_to b e.letters) []
+pub waiting_more : (s : Settings) (p : PartName) (mark : Option Taken) (e : Effects) (w : World) (a b : PartName) → waiting_between (behind s p mark e w) a b ≡ waiting_between w a b ++ cond (same_part a p) (letters_to b e.letters) []
 waiting_more s p mark e w a b =
     ap (λ l. map (λ (f : Flight). f.posted.letter) (filter (is_between a b) l)) (letters_behind s p mark e w)
     ∙ ap (map (λ (f : Flight). f.posted.letter)) (filter-append (is_between a b) w.letters (flights p e.letters))
