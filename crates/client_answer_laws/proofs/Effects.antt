@@ -1,6 +1,7 @@
 -- What one entry is for each operation: nothing, an answer, an answer of the proxy's own, or one that comes too late.
-use Rattle.std.proofs.Common.{◌≡◌, ℕ, suc, inl, inr, Bool, true, false, ◌==◌, ◌&&◌, not, List, [], ◌∷◌, ◌++◌, length, refl, ap, ◌∙◌, sym}
+use Rattle.std.proofs.Common.{◌≡◌, ℕ, suc, ◌+◌, ◌≤◌, inl, inr, Bool, true, false, ◌==◌, ◌&&◌, not, List, [], ◌∷◌, ◌++◌, length, refl, ap, arith, ◌∙◌, sym}
 use Rattle.std.specs.Prelude.{Option, Some, None, is_none, find, cond, if◌then◌else◌}
+use Rattle.std.proofs.lemmas.List.{length-append}
 use Rattle.std.specs.List.{list_any, list_all}
 use Rattle.ldap_spec.specs.Messages.{Message}
 use Rattle.ldap_spec.specs.Kinds.{is_final}
@@ -35,6 +36,7 @@ use Rattle.client_share_laws.proofs.ClientCases.{taken}
 use Rattle.client_answer_laws.proofs.Each.{Each, each_imply, each_both, each_found, each_filter, each_unfilter}
 use Rattle.client_answer_laws.proofs.Waits.{Carries, named_each}
 use Rattle.client_answer_laws.proofs.Expects.{ExpectKnown}
+use Rattle.client_answer_laws.proofs.Causes.{Caused, entries_count}
 use Rattle.client_answer_laws.proofs.Told.{OpSays, Effect, replies_push}
 use Rattle.client_answer_laws.proofs.Owns.{IsOwn}
 use Rattle.client_answer_laws.proofs.Only.{OneOrOther, TheOne, each_one_or_other, none_added, out_added, out_other}
@@ -45,12 +47,14 @@ abbrev pub NoReply : Option Taken → Type 0
 NoReply mark = (op : OpName) → reply_rest op mark ≡ []
 
 -- the operation that an entry makes got nothing
-pub new_says : (s : Settings) (c : ℕ) (place : List Entry) (e : Entry) (x : Message) (ms : List Marked) → replies ms (record { client = c; k = suc (length (operations c place)) }) ≡ [] → OpSays s ms (new_operation c place e x)
-new_says s c place e x ms h =
+pub new_says : (s : Settings) (c : ℕ) (place : List Entry) (e : Entry) (x : Message) (ms : List Marked) → length place ≤ length ms → replies ms (record { client = c; k = suc (length (operations c place)) }) ≡ [] → OpSays s ms (new_operation c place e x)
+new_says s c place e x ms l h =
     record {
       answered = refl;
       known = by (wants_identity s x);
       live = λ k. record { same = sym h; none_final = ap (list_all (λ r. not (is_final_to x.rest r))) h };
+      within = l;
+      ends = inl refl;
     }
   where
     by : (b : Bool) → implies (b && false) (list_any (has_letter (tells_identity (record { client = c; k = suc (length (operations c place)) }))) ms) ≡ true
@@ -73,8 +77,14 @@ module _ (s : Settings) (c u at : ℕ) (mark : Option Taken) (silent : NoReply m
       go [] n = tt
       go (o ∷ os) n = (one w z o (left (not (o.request.id == 0)) _ n), go os (right (not (o.request.id == 0)) _ n))
 
+  longer : length (entries ms) ≤ length (ms ++ record { entry = record { part = Client u; at = at; what = w }; mark = mark } ∷ [])
+  longer =
+      let one : length (ms ++ record { entry = record { part = Client u; at = at; what = w }; mark = mark } ∷ []) ≡ length ms + 1 = length-append ms (record { entry = record { part = Client u; at = at; what = w }; mark = mark } ∷ []) in
+      let same : length (entries ms) ≡ length ms = entries_count ms in
+      omega (arith, one, same)
+
   pub ops_silent : EndsOnce c (entries ms) → is_zero w ≡ true → Ops s c ms → list_all (λ m. is_reply_within c (length (operations c (entries ms))) m.mark) ms ≡ true → Ops s c (ms ++ record { entry = record { part = Client u; at = at; what = w }; mark = mark } ∷ [])
-  ops_silent once z h within = ops_more s c ms (record { entry = record { part = Client u; at = at; what = w }; mark = mark }) h (each_imply (λ o. outs (later_operation (record { part = Client u; at = at; what = w }) o) ≡ outs o) (Effect s (record { entry = record { part = Client u; at = at; what = w }; mark = mark })) (operations c (entries ms)) (λ o k. inl (record { outs_same = k; no_reply = silent o.name })) (zero_same once z)) (λ x j. new_says s c (entries ms) (record { part = Client u; at = at; what = w }) x (ms ++ record { entry = record { part = Client u; at = at; what = w }; mark = mark } ∷ []) (replies_push ms (record { entry = record { part = Client u; at = at; what = w }; mark = mark }) (record { client = c; k = suc (length (operations c (entries ms))) }) ∙ ap (λ l. l ++ reply_rest (record { client = c; k = suc (length (operations c (entries ms))) }) mark) (none_replied c (length (operations c (entries ms))) ms within) ∙ silent (record { client = c; k = suc (length (operations c (entries ms))) })))
+  ops_silent once z h within = ops_more s c ms (record { entry = record { part = Client u; at = at; what = w }; mark = mark }) h (each_imply (λ o. outs (later_operation (record { part = Client u; at = at; what = w }) o) ≡ outs o) (Effect s ms (record { entry = record { part = Client u; at = at; what = w }; mark = mark })) (operations c (entries ms)) (λ o k. inl (record { outs_same = k; no_reply = silent o.name })) (zero_same once z)) (λ x j. new_says s c (entries ms) (record { part = Client u; at = at; what = w }) x (ms ++ record { entry = record { part = Client u; at = at; what = w }; mark = mark } ∷ []) longer (replies_push ms (record { entry = record { part = Client u; at = at; what = w }; mark = mark }) (record { client = c; k = suc (length (operations c (entries ms))) }) ∙ ap (λ l. l ++ reply_rest (record { client = c; k = suc (length (operations c (entries ms))) }) mark) (none_replied c (length (operations c (entries ms))) ms within) ∙ silent (record { client = c; k = suc (length (operations c (entries ms))) })))
 
 -- An Out that is final for an operation ends it.
 final_ends : (part : PartName) (at id : ℕ) (rest : List ℕ) (o : Operation) → has_last id o ≡ true → is_final_to o.request.rest rest ≡ true → is_live (later_operation (entry_of part at (what.Out id rest)) o) ≡ false
@@ -102,17 +112,17 @@ module _ (s : Settings) (c u at : ℕ) (mark : Option Taken) (ms : List Marked) 
   abbrev told : Marked
   told = record { entry = record { part = Client u; at = at; what = what.Out r.request.id rest }; mark = mark }
 
-  pub ops_out : (K : Operation → Type 0) → Each K (operations c (entries ms)) → ((o : Operation) → TheOne c r o → K o → Effect s (record { entry = record { part = Client u; at = at; what = what.Out r.request.id rest }; mark = mark }) o) → ((o : Operation) → same_op (record { client = c; k = r.k }) o.name ≡ false → reply_rest o.name mark ≡ []) → Ops s c ms → Ops s c (ms ++ record { entry = record { part = Client u; at = at; what = what.Out r.request.id rest }; mark = mark } ∷ [])
-  ops_out K known f g h = ops_more s c ms (record { entry = record { part = Client u; at = at; what = what.Out r.request.id rest }; mark = mark }) h (each_imply (λ o. OneOrOther c r o × K o) (Effect s (record { entry = record { part = Client u; at = at; what = what.Out r.request.id rest }; mark = mark })) (operations c (entries ms)) (λ o k. by o k.0 k.1) (each_both (OneOrOther c r) K (operations c (entries ms)) (each_one_or_other c (entries ms) p lives once t r there) known)) (λ x j. absurd (let bad : None ≡ Some x = j in cc))
+  pub ops_out : (K : Operation → Type 0) → Each K (operations c (entries ms)) → ((o : Operation) → TheOne c r o → K o → Effect s ms (record { entry = record { part = Client u; at = at; what = what.Out r.request.id rest }; mark = mark }) o) → ((o : Operation) → same_op (record { client = c; k = r.k }) o.name ≡ false → reply_rest o.name mark ≡ []) → Ops s c ms → Ops s c (ms ++ record { entry = record { part = Client u; at = at; what = what.Out r.request.id rest }; mark = mark } ∷ [])
+  ops_out K known f g h = ops_more s c ms (record { entry = record { part = Client u; at = at; what = what.Out r.request.id rest }; mark = mark }) h (each_imply (λ o. OneOrOther c r o × K o) (Effect s ms (record { entry = record { part = Client u; at = at; what = what.Out r.request.id rest }; mark = mark })) (operations c (entries ms)) (λ o k. by o k.0 k.1) (each_both (OneOrOther c r) K (operations c (entries ms)) (each_one_or_other c (entries ms) p lives once t r there) known)) (λ x j. absurd (let bad : None ≡ Some x = j in cc))
     where
-      by : (o : Operation) → OneOrOther c r o → K o → Effect s (record { entry = record { part = Client u; at = at; what = what.Out r.request.id rest }; mark = mark }) o
+      by : (o : Operation) → OneOrOther c r o → K o → Effect s ms (record { entry = record { part = Client u; at = at; what = what.Out r.request.id rest }; mark = mark }) o
       by o (inl one) k = f o one k
       by o (inr other) k = inl (record { outs_same = out_other (Client u) at r.request.id rest o other.last; no_reply = g o other.unnamed })
 
-  -- an answer of the proxy's own
-  pub ops_own : (K : Operation → Type 0) → Each K (operations c (entries ms)) → NoReply mark → ((o : Operation) → TheOne c r o → K o → IsOwn s o.request rest) → Ops s c ms → Ops s c (ms ++ record { entry = record { part = Client u; at = at; what = what.Out r.request.id rest }; mark = mark } ∷ [])
+  -- an answer of the proxy's own, with its cause
+  pub ops_own : (K : Operation → Type 0) → Each K (operations c (entries ms)) → NoReply mark → ((o : Operation) → TheOne c r o → K o → IsOwn s o.request rest × Caused s (ms ++ record { entry = record { part = Client u; at = at; what = what.Out r.request.id rest }; mark = mark } ∷ []) (later_operation (record { part = Client u; at = at; what = what.Out r.request.id rest }) o) rest) → Ops s c ms → Ops s c (ms ++ record { entry = record { part = Client u; at = at; what = what.Out r.request.id rest }; mark = mark } ∷ [])
   ops_own K known silent owns h = ops_out K known (λ o one k.
-      let own : IsOwn s o.request rest = owns o one k in
+      let own : IsOwn s o.request rest = (owns o one k).0 in
       inr (inr (inr (record {
         rest = rest;
         told = out_added (Client u) at r.request.id rest o one.last;
@@ -121,6 +131,7 @@ module _ (s : Settings) (c u at : ℕ) (mark : Option Taken) (ms : List Marked) 
         over = final_ends (Client u) at r.request.id rest o one.last own.final;
         own = own.own;
         unknown = ap (λ b. asks_who s o && (b && has_code success rest)) own.final ∙ own.unknown;
+        caused = (owns o one k).1;
       })))) (λ o k. silent o.name) h
 
 -- a fit answer is expected, of the operation's own request
@@ -187,11 +198,11 @@ module _ (s : Settings) (c at : ℕ) (ms : List Marked) (p : ClientState) (numbe
   unnamed = each_unfilter (λ o. same_op o.name op ≡ false) is_live (operations c (entries ms)) (none_row p.rows (live_operations c (entries ms)) lives.rows clients none)
 
   pub ops_late : Ops s c ms → Ops s c (ms ++ record { entry = record { part = Client p.number; at = at; what = what.Late op }; mark = mark } ∷ [])
-  ops_late h = ops_more s c ms (record { entry = record { part = Client p.number; at = at; what = what.Late op }; mark = mark }) h (each_imply (λ o. is_live o ≡ true → same_op o.name op ≡ false) (Effect s (record { entry = record { part = Client p.number; at = at; what = what.Late op }; mark = mark })) (operations c (entries ms)) (λ o f. by o (is_live o) refl f) unnamed) (λ x j. absurd (let bad : None ≡ Some x = j in cc))
+  ops_late h = ops_more s c ms (record { entry = record { part = Client p.number; at = at; what = what.Late op }; mark = mark }) h (each_imply (λ o. is_live o ≡ true → same_op o.name op ≡ false) (Effect s ms (record { entry = record { part = Client p.number; at = at; what = what.Late op }; mark = mark })) (operations c (entries ms)) (λ o f. by o (is_live o) refl f) unnamed) (λ x j. absurd (let bad : None ≡ Some x = j in cc))
     where
       same : (o : Operation) → outs (later_operation (record { part = Client p.number; at = at; what = what.Late op }) o) ≡ outs o
       same o = none_added (record { part = Client p.number; at = at; what = what.Late op }) o refl
 
-      by : (o : Operation) (b : Bool) → is_live o ≡ b → (is_live o ≡ true → same_op o.name op ≡ false) → Effect s (record { entry = record { part = Client p.number; at = at; what = what.Late op }; mark = mark }) o
+      by : (o : Operation) (b : Bool) → is_live o ≡ b → (is_live o ≡ true → same_op o.name op ≡ false) → Effect s ms (record { entry = record { part = Client p.number; at = at; what = what.Late op }; mark = mark }) o
       by o true k f = inl (record { outs_same = same o; no_reply = quiet o.name (f k) })
       by o false k f = inr (inl (record { outs_same = same o; over = k }))

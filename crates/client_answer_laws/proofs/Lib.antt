@@ -7,10 +7,15 @@ pub mod Life
 pub mod FitTurns
 pub mod LifeKept
 pub mod Expects
+pub mod OwnTexts
+pub mod Causes
 pub mod Told
 pub mod Only
 pub mod Tells
 pub mod Owns
+pub mod CheckCauses
+pub mod OwnCauses
 pub mod Effects
 pub mod ToldTurns
 pub mod ToldKept
+pub mod Shares

@@ -100,9 +100,9 @@ none_replied c n (m ∷ ms) h = ap (λ l. l ++ replies ms (record { client = c; 
 abbrev pub Ops : Settings → ℕ → List Marked → Type 0
 Ops s c ms = Each (OpSays s ms) (operations c (entries ms))
 
-pub ops_more : (s : Settings) (c : ℕ) (ms : List Marked) (m : Marked) → Ops s c ms → Each (Effect s m) (operations c (entries ms)) → ((x : Message) → operation_message m.entry.what ≡ Some x → OpSays s (ms ++ m ∷ []) (new_operation c (entries ms) m.entry x)) → Ops s c (ms ++ m ∷ [])
+pub ops_more : (s : Settings) (c : ℕ) (ms : List Marked) (m : Marked) → Ops s c ms → Each (Effect s ms m) (operations c (entries ms)) → ((x : Message) → operation_message m.entry.what ≡ Some x → OpSays s (ms ++ m ∷ []) (new_operation c (entries ms) m.entry x)) → Ops s c (ms ++ m ∷ [])
 ops_more s c ms m h k f = subst (λ b. Each (OpSays s (ms ++ m ∷ [])) (operations c b)) (sym (map-append (λ x. x.entry) ms (m ∷ []))) (each_grows (OpSays s (ms ++ m ∷ [])) c (entries ms) m.entry (both_so (operations c (entries ms)) h k) f)
   where
-    both_so : (os : List Operation) → Each (OpSays s ms) os → Each (Effect s m) os → Each (λ o. OpSays s (ms ++ m ∷ []) (later_operation m.entry o)) os
+    both_so : (os : List Operation) → Each (OpSays s ms) os → Each (Effect s ms m) os → Each (λ o. OpSays s (ms ++ m ∷ []) (later_operation m.entry o)) os
     both_so [] a b = tt
     both_so (o ∷ os) a b = (op_more s ms m o a.0 b.0, both_so os a.1 b.1)

@@ -7,7 +7,7 @@ use Rattle.ldap_spec.specs.Messages.{Message}
 use Rattle.ldap_spec.specs.Kinds.{kind_of}
 use Rattle.lload_names.specs.declared.names.CancelAnswer.TheVariants.{S1}
 use Rattle.lload_names.specs.declared.names.OpName.{OpName}
-use Rattle.lload_names.specs.declared.names.PartName.TheVariants.{Up as Connection}
+use Rattle.lload_names.specs.declared.names.PartName.TheVariants.{Client, Up as Connection}
 use Rattle.lload_names.specs.declared.names.Letter.{Letter}
 use Rattle.lload_names.specs.declared.names.Letter.TheVariants.{Choice, Reply, Failed}
 use Rattle.lload_names.specs.declared.names.What.{What}
@@ -20,7 +20,7 @@ use Rattle.lload_spec.specs.FirstCheck.{Check, Ends, Unbinds, Abandons, Refuses,
 use Rattle.part_spec.specs.Marked.{Marked, Taken, entries}
 use Rattle.part_spec.specs.ClientState.{check_at, row_named}
 use Rattle.part_spec.specs.ClientTurn.{refused, noticed, whats_by, whats_for}
-use Rattle.part_spec.specs.Share.{is_answered_by, is_success_known}
+use Rattle.part_spec.specs.Share.{is_answered_by, is_success_known, has_causes}
 use Rattle.part_spec.specs.Fit.{ClientLedger, Expected, fits_client, is_unfit, expected_from, answers, is_known, step_client_ledger, empty_client_ledger, ledger_behind as behind}
 use Rattle.lload_spec.proofs.Growth.{left, right, both}
 use Rattle.lload_laws.proofs.ListLaws.{found_passes}
@@ -33,7 +33,8 @@ use Rattle.client_laws.proofs.ClientTurns.{client_turn_of}
 use Rattle.client_laws.proofs.ClientClauses.{Keeps}
 use Rattle.client_share_laws.proofs.Whats.{refused_all, canceled_all, choice_all}
 use Rattle.client_share_laws.proofs.ClientCases.{Cases, taken, event_case}
-use Rattle.client_answer_laws.specs.Clauses.{ClientAnswered, ClientSuccesses}
+use Rattle.client_share_laws.proofs.ClientOwns.{event_own}
+use Rattle.client_answer_laws.specs.Clauses.{ClientAnswered, ClientRefusals, ClientSuccesses}
 use Rattle.client_answer_laws.proofs.Each.{Each, each_found}
 use Rattle.client_answer_laws.proofs.Waits.{is_within}
 use Rattle.client_answer_laws.proofs.Known.{IsAsked, is_unchosen, none_asked}
@@ -41,6 +42,7 @@ use Rattle.client_answer_laws.proofs.Life.{FirstFits, not_false, fit_asked}
 use Rattle.client_answer_laws.proofs.LifeKept.{life_begins}
 use Rattle.client_answer_laws.proofs.FitTurns.{fit_turns}
 use Rattle.client_answer_laws.proofs.Expects.{ExpectKnown}
+use Rattle.client_answer_laws.proofs.Causes.{causes_hold}
 use Rattle.client_answer_laws.proofs.Told.{OpSays}
 use Rattle.client_answer_laws.proofs.Tells.{Ops, Tells, is_reply_within, is_told_within, tells_turn}
 use Rattle.client_answer_laws.proofs.ToldTurns.{told_cases}
@@ -101,6 +103,7 @@ module _ (s : Settings) (c : ℕ) (ms : List Marked) (l : ClientLedger) (h : Tel
 pub record ToldKept (s : Settings) (c : ℕ) (before : List Marked) (l : ClientLedger) : Type 0 where
   pub tells : Tells s c before l
   pub once : EndsOnce c (entries before)
+  pub own : list_all (λ e. same_part (Client c) e.part) (entries before) ≡ true
   pub ops : Ops s c before
 
 pub told_more : (s : Settings) (c : ℕ) (before : List Marked) (l : ClientLedger) (x : Event) → Keeps s c before l.state → ToldKept s c before l → FirstFits s l (made (client_event s) l.state x) → ToldKept s c (before ++ made (client_event s) l.state x) (behind (step_client_ledger s) l (made (client_event s) l.state x))
@@ -108,11 +111,12 @@ told_more s c before l x keeps h fit =
     record {
       tells = event_case s l.state (λ ms. FirstFits s l ms → Tells s c (before ++ ms) (behind (step_client_ledger s) l ms)) (tells_cases s c before l h.tells) x fit;
       once = subst (EndsOnce c) (sym (map-append (λ m. m.entry) before (made (client_event s) l.state x))) (event_once s c (entries before) l.state x keeps.lives h.once);
-      ops = event_case s l.state (λ ms. FirstFits s l ms → Ops s c (before ++ ms)) (told_cases s c before l keeps.lives h.once h.tells h.ops) x fit;
+      own = event_own s c before l.state x keeps.says.number h.own;
+      ops = event_case s l.state (λ ms. FirstFits s l ms → Ops s c (before ++ ms)) (told_cases s c before l keeps.state keeps.lives h.once h.own h.tells h.ops) x fit;
     }
 
 pub told_begins : (s : Settings) (c : ℕ) → ToldKept s c [] (empty_client_ledger c)
-told_begins s c = record { tells = record { known = (life_begins s c).known; expected = tt; replies = refl }; once = record { one_last = λ n. omega arith; no_zero = refl; ended_once = refl }; ops = tt }
+told_begins s c = record { tells = record { known = (life_begins s c).known; expected = tt; replies = refl }; once = record { one_last = λ n. omega arith; no_zero = refl; ended_once = refl }; own = refl; ops = tt }
 
 -- what each operation keeps
 pub all_of : (P : Operation → Type 0) (t : Operation → Bool) (os : List Operation) → ((o : Operation) → P o → t o ≡ true) → Each P os → list_all t os ≡ true
@@ -124,3 +128,6 @@ client_answered s c xs = fit_turns s c (ToldKept s c) (told_more s c) (λ b. lis
 
 pub client_successes : ClientSuccesses
 client_successes s c xs = fit_turns s c (ToldKept s c) (told_more s c) (λ b. list_all (is_success_known s b) (operations c (entries b)) ≡ true) (λ before l keeps turns h. all_of (OpSays s before) (is_success_known s before) (operations c (entries before)) (λ o q. q.known) h.ops) (told_begins s c) xs
+
+pub client_refusals : ClientRefusals
+client_refusals s c xs = fit_turns s c (ToldKept s c) (told_more s c) (λ b. list_all (has_causes s b) (operations c (entries b)) ≡ true) (λ before l keeps turns h. all_of (OpSays s before) (has_causes s before) (operations c (entries before)) (λ o q. causes_hold s before o q.ends) h.ops) (told_begins s c) xs

@@ -1,5 +1,5 @@
 -- What each operation got, behind each turn of a client.
-use Rattle.std.proofs.Common.{◌≡◌, ℕ, suc, Bool, true, false, ◌==◌, ◌&&◌, ◌||◌, not, List, [], ◌∷◌, ◌++◌, length, refl, ap, arith, ◌∙◌, sym, subst, append_assoc}
+use Rattle.std.proofs.Common.{◌≡◌, ℕ, suc, inl, Bool, true, false, ◌==◌, ◌&&◌, ◌||◌, not, List, [], ◌∷◌, ◌++◌, length, refl, ap, arith, ◌∙◌, sym, subst, append_assoc}
 use Rattle.std.specs.Prelude.{Option, Some, None, find, filter, cond, nat_le, option_map}
 use Rattle.std.specs.List.{list_any, list_all}
 use Rattle.std.proofs.lemmas.List.{append-nil, map-append}
@@ -8,37 +8,41 @@ use Rattle.ldap_spec.specs.Messages.{Message}
 use Rattle.ldap_spec.specs.Kinds.{kind_of, same_kind}
 use Rattle.ldap_spec.specs.Requests.{is_cancel}
 use Rattle.ldap_spec.specs.Bodies.{refusal, cancel_answer}
+use Rattle.lload_names.specs.declared.names.Entry.{Entry}
 use Rattle.lload_names.specs.declared.names.OpName.{OpName}
 use Rattle.lload_names.specs.declared.names.OpKind.{OpKind}
 use Rattle.lload_names.specs.declared.names.OpKind.TheVariants.{Bind}
 use Rattle.lload_names.specs.declared.names.Answer.{Answer}
 use Rattle.lload_names.specs.declared.names.Answer.TheVariants.{Go, Busy, Unavailable}
 use Rattle.lload_names.specs.declared.names.Refusal.{Refusal}
-use Rattle.lload_names.specs.declared.names.Refusal.TheVariants.{C1, C3}
+use Rattle.lload_names.specs.declared.names.Refusal.TheVariants.{C1, C3, C4, C5, C9}
 use Rattle.lload_names.specs.declared.names.CancelAnswer.{CancelAnswer}
 use Rattle.lload_names.specs.declared.names.CancelAnswer.TheVariants.{S1, C13, C14, C15, C16}
 use Rattle.lload_names.specs.declared.names.EndWhy.TheVariants.{Left}
 use Rattle.lload_names.specs.declared.names.PartName.{PartName}
-use Rattle.lload_names.specs.declared.names.PartName.TheVariants.{Client}
+use Rattle.lload_names.specs.declared.names.PartName.TheVariants.{Client, Up as Connection}
 use Rattle.lload_names.specs.declared.names.Letter.TheVariants.{Choice, Reply, Failed}
 use Rattle.lload_names.specs.declared.names.What.{What}
 use Rattle.lload_names.specs.declared.names.What.TheVariants as what
 use Rattle.lload_spec.specs.Lists.{passes}
 use Rattle.lload_spec.specs.Settings.{Settings}
-use Rattle.lload_spec.specs.Journal.{same_op}
+use Rattle.lload_spec.specs.Journal.{family, same_op, same_part, same_answer}
 use Rattle.lload_spec.specs.Entries.{makes_operation}
 use Rattle.lload_spec.specs.Operations.{Operation, operations, is_request_of, is_final_for}
+use Rattle.lload_spec.specs.Answers.{wants_identity}
+use Rattle.lload_spec.specs.Caused.{is_refused_by_choice}
 use Rattle.lload_spec.specs.FirstCheck.{Check, Ends, Unbinds, Abandons, Refuses, Answers, Cancels, GoesOn, live_request, may_be_canceled}
 use Rattle.part_spec.specs.Marked.{Marked, Taken, entries}
 use Rattle.part_spec.specs.Inputs.{entries_of}
-use Rattle.part_spec.specs.ClientState.{ClientState, ClientRow, facts_of, check_at, row_named, row_under, step_client, new_row}
+use Rattle.part_spec.specs.ClientState.{ClientState, ClientRow, empty_client, facts_of, check_at, row_named, row_under, step_client, new_row}
 use Rattle.part_spec.specs.ClientTurn.{refused, canceled, noticed, whats_by, whats_for}
-use Rattle.part_spec.specs.Fit.{ClientLedger, fits_client}
+use Rattle.part_spec.specs.Fit.{ClientLedger, Expected, fits_client, is_unfit, is_loss, expected_from, ledger_behind as behind}
+use Rattle.part_spec.specs.Share.{has_cause}
 use Rattle.lload_spec.proofs.Growth.{left, right, both}
-use Rattle.lload_laws.specs.ClientGrowth.{is_named_within}
+use Rattle.lload_laws.specs.ClientGrowth.{later_operation, is_named_within}
 use Rattle.lload_laws.proofs.ListLaws.{found_passes, find-map}
 use Rattle.client_laws.proofs.ClientCancels.{Named, cancel_named, ext_tag}
-use Rattle.part_laws.proofs.ListLaws.{not_both, not_true, eqb_same, eqb_sym, same_number, or_left, or_right}
+use Rattle.part_laws.proofs.ListLaws.{not_both, not_true, eqb_same, eqb_sym, same_number, same_op_eq, same_op_sym, or_left, or_right}
 use Rattle.client_laws.proofs.Matches.{ClientLives, out_rows}
 use Rattle.client_laws.proofs.ClientOuts.{EndsOnce}
 use Rattle.client_laws.proofs.ClientEnds.{is_zero, zero_through, once_through, kind_makes, checked_id, out_left, ext_makes, ext_no_bind}
@@ -46,12 +50,15 @@ use Rattle.client_laws.proofs.ClientGives.{in_state}
 use Rattle.client_laws.proofs.ClientTurns.{client_turn_of, tail_none, lives_through, free_by, is_end}
 use Rattle.client_laws.proofs.ClientLives.{is_free_id}
 use Rattle.client_share_laws.proofs.ClientCases.{Cases, taken}
-use Rattle.client_answer_laws.proofs.Each.{Each, each_imply, each_always}
-use Rattle.client_answer_laws.proofs.Waits.{each_grows, named_each, fresh_number}
+use Rattle.client_answer_laws.proofs.Each.{Each, each_imply, each_always, each_found}
+use Rattle.client_answer_laws.proofs.Waits.{Carries, each_grows, named_each, fresh_number}
+use Rattle.client_answer_laws.proofs.Expects.{ExpectKnown}
 use Rattle.client_answer_laws.proofs.Life.{FirstFits, not_false}
 use Rattle.client_answer_laws.proofs.Only.{TheOne}
 use Rattle.client_answer_laws.proofs.Owns.{IsOwn, refusal_own, canceled_own, cancel_own, cancel_among, is_of_cancel, of_cancel, cancel_no_bind}
 use Rattle.client_answer_laws.proofs.Tells.{Ops, Tells, is_reply_within, replies_within}
+use Rattle.client_answer_laws.proofs.Causes.{Caused}
+use Rattle.client_answer_laws.proofs.OwnCauses.{IsNew, row_lives, refused_new, answered_new, succeeds_new, canceled_cause, chosen_cause, failed_cause}
 use Rattle.client_answer_laws.proofs.Effects.{NoReply, ops_silent, ops_own, ops_answer, ops_late}
 
 -- a mark of no answer
@@ -102,7 +109,7 @@ id_there t (x ∷ xs) r e = by (t x) e (id_there t xs r)
     by true k ih = let same : x ≡ r = cc in or_left (x.request.id == r.request.id) _ (ap (λ (y : ClientRow). y.request.id == r.request.id) same ∙ eqb_same r.request.id)
     by false k ih = or_right (x.request.id == r.request.id) _ (ih k)
 
-module _ (s : Settings) (c : ℕ) (ms : List Marked) (l : ClientLedger) (lives : ClientLives c (entries ms) l.state) (once : EndsOnce c (entries ms)) (h : Tells s c ms l) (ops : Ops s c ms) where
+module _ (s : Settings) (c : ℕ) (ms : List Marked) (l : ClientLedger) (state : l.state ≡ behind (step_client s) (empty_client c) ms) (lives : ClientLives c (entries ms) l.state) (once : EndsOnce c (entries ms)) (own : list_all (λ e. same_part (Client c) e.part) (entries ms) ≡ true) (h : Tells s c ms l) (ops : Ops s c ms) where
   abbrev p : ClientState
   p = l.state
 
@@ -130,25 +137,34 @@ module _ (s : Settings) (c : ℕ) (ms : List Marked) (l : ClientLedger) (lives :
     ops_behind = ops_silent s c l.state.number at mark quiet.silent w ms once z ops h.replies
 
     -- and then an answer of the proxy's own
-    pub then_own : (K : Operation → Type 0) → Each K (operations c (entries (ms ++ record { entry = record { part = Client l.state.number; at = at; what = w }; mark = mark } ∷ []))) → (t : ClientRow → Bool) (r : ClientRow) → find t (step_client s l.state (record { entry = record { part = Client l.state.number; at = at; what = w }; mark = mark })).rows ≡ Some r → (rest : List ℕ) → ((o : Operation) → TheOne c r o → K o → IsOwn s o.request rest) → Ops s c (ms ++ client_turn_of l.state.number at mark (w ∷ what.Out r.request.id rest ∷ []))
-    then_own K known t r there rest owns = subst (Ops s c) (append_assoc ms (record { entry = record { part = Client l.state.number; at = at; what = w }; mark = mark } ∷ []) (client_turn_of l.state.number at None (what.Out r.request.id rest ∷ []))) (ops_own s c l.state.number at None (ms ++ record { entry = record { part = Client l.state.number; at = at; what = w }; mark = mark } ∷ []) (step_client s l.state (record { entry = record { part = Client l.state.number; at = at; what = w }; mark = mark })) lives_behind once_behind t r there rest K known (λ op. refl) owns ops_behind)
+    pub then_own : (K : Operation → Type 0) → Each K (operations c (entries (ms ++ record { entry = record { part = Client l.state.number; at = at; what = w }; mark = mark } ∷ []))) → (t : ClientRow → Bool) (r : ClientRow) → find t (step_client s l.state (record { entry = record { part = Client l.state.number; at = at; what = w }; mark = mark })).rows ≡ Some r → (rest : List ℕ) → ((o : Operation) → TheOne c r o → K o → IsOwn s o.request rest × Caused s (ms ++ record { entry = record { part = Client l.state.number; at = at; what = w }; mark = mark } ∷ record { entry = record { part = Client l.state.number; at = at; what = what.Out r.request.id rest }; mark = None } ∷ []) (later_operation (record { part = Client l.state.number; at = at; what = what.Out r.request.id rest }) o) rest) → Ops s c (ms ++ client_turn_of l.state.number at mark (w ∷ what.Out r.request.id rest ∷ []))
+    then_own K known t r there rest owns = subst (Ops s c) (append_assoc ms (record { entry = record { part = Client l.state.number; at = at; what = w }; mark = mark } ∷ []) (client_turn_of l.state.number at None (what.Out r.request.id rest ∷ []))) (ops_own s c l.state.number at None (ms ++ record { entry = record { part = Client l.state.number; at = at; what = w }; mark = mark } ∷ []) (step_client s l.state (record { entry = record { part = Client l.state.number; at = at; what = w }; mark = mark })) lives_behind once_behind t r there rest K known (λ op. refl) (λ o one k. ((owns o one k).0, subst (λ b. Caused s b (later_operation (record { part = Client l.state.number; at = at; what = what.Out r.request.id rest }) o) rest) (sym (append_assoc ms (record { entry = record { part = Client l.state.number; at = at; what = w }; mark = mark } ∷ []) (record { entry = record { part = Client l.state.number; at = at; what = what.Out r.request.id rest }; mark = None } ∷ []))) (owns o one k).1)) ops_behind)
 
   -- a refusal of a live operation, by its row
-  row_owns : (r : ClientRow) (kind : OpKind) (which : Refusal) → kind_of r.request.rest ≡ Some kind → (o : Operation) → TheOne c r o → Unit {0} → IsOwn s o.request (refusal kind which)
-  row_owns r kind which k o one u = refusal_own s o.request kind which (sym one.match.kind ∙ k)
+  row_owns : (r : ClientRow) (kind : OpKind) (which : Refusal) → kind_of r.request.rest ≡ Some kind → (o : Operation) → TheOne c r o → IsOwn s o.request (refusal kind which)
+  row_owns r kind which k o one = refusal_own s o.request kind which (sym one.match.kind ∙ k)
 
   nothing : (ns : List Operation) → Each (λ o. Unit {0}) ns
   nothing ns = each_always (λ o. Unit {0}) ns (λ o. tt)
 
-  chosen_refused : (at : ℕ) (sender : PartName) (op : OpName) (a : Answer) (r : ClientRow) (which : Refusal) → row_named l.state op ≡ Some r → (step_client s l.state (record { entry = record { part = Client l.state.number; at = at; what = what.Chosen op a }; mark = taken sender (Choice op a) })).rows ≡ l.state.rows → Turn (client_turn_of l.state.number at (taken sender (Choice op a)) (what.Chosen op a ∷ refused r.request which))
-  chosen_refused at sender op a r which e rows u = by (kind_of r.request.rest) refl
+  -- the name of a row that is named
+  row_name : (op : OpName) (r : ClientRow) → row_named l.state op ≡ Some r → record { client = c; k = r.k } ≡ op
+  row_name op r e =
+      let named : (l.state.number == op.client && r.k == op.k) ≡ true = found_passes (λ x. l.state.number == op.client && x.k == op.k) l.state.rows r e in
+      λ i. record { client = (sym h.known.says.number ∙ same_number l.state.number op.client (left (l.state.number == op.client) _ named)) i; k = same_number r.k op.k (right (l.state.number == op.client) _ named) i }
+
+  chosen_refused : (at : ℕ) (sender : PartName) (op : OpName) (a : Answer) (r : ClientRow) (which : Refusal) → same_answer a a ≡ true → ((list : List Marked) (o : Operation) → has_cause s list o which ≡ is_refused_by_choice (family (entries list)) a which o) → row_named l.state op ≡ Some r → (step_client s l.state (record { entry = record { part = Client l.state.number; at = at; what = what.Chosen op a }; mark = taken sender (Choice op a) })).rows ≡ l.state.rows → Turn (client_turn_of l.state.number at (taken sender (Choice op a)) (what.Chosen op a ∷ refused r.request which))
+  chosen_refused at sender op a r which same cause e rows u = by (kind_of r.request.rest) refl
     where
+      causes : (kind : OpKind) → kind_of r.request.rest ≡ Some kind → (o : Operation) → TheOne c r o → (n : OpName) → record { client = c; k = r.k } ≡ n → is_refused_by_choice (family (entries (ms ++ record { entry = record { part = Client l.state.number; at = at; what = what.Chosen n a }; mark = taken sender (Choice n a) } ∷ record { entry = record { part = Client l.state.number; at = at; what = what.Out r.request.id (refusal kind which) }; mark = None } ∷ []))) a which (later_operation (record { part = Client l.state.number; at = at; what = what.Out r.request.id (refusal kind which) }) o) ≡ true
+      causes kind k o one n name = subst (λ (x : OpName). is_refused_by_choice (family (entries (ms ++ record { entry = record { part = Client l.state.number; at = at; what = what.Chosen x a }; mark = taken sender (Choice x a) } ∷ record { entry = record { part = Client l.state.number; at = at; what = what.Out r.request.id (refusal kind which) }; mark = None } ∷ []))) a which (later_operation (record { part = Client l.state.number; at = at; what = what.Out r.request.id (refusal kind which) }) o) ≡ true) name (chosen_cause s c ms l.state state l.state.number at r o one (row_lives s c (entries ms) l.state lives once h.known.rows (λ x. l.state.number == op.client && x.k == op.k) r e) kind k own h.known.says.number a which (taken sender (Choice (record { client = c; k = r.k }) a)) None same)
+
       quiet : Silent (taken sender (Choice op a))
       quiet = record { silent = λ n. refl; within = λ d n. refl }
 
       by : (o : Option OpKind) → kind_of r.request.rest ≡ o → Ops s c (ms ++ client_turn_of l.state.number at (taken sender (Choice op a)) (what.Chosen op a ∷ (elim o [ None ↦ [] | Some kind ↦ what.Out r.request.id (refusal kind which) ∷ [] ])))
       by None k = zero at (taken sender (Choice op a)) (what.Chosen op a ∷ []) quiet refl u
-      by (Some kind) k = then_own at (taken sender (Choice op a)) quiet (what.Chosen op a) refl refl (λ o. Unit {0}) (nothing _) (λ x. l.state.number == op.client && x.k == op.k) r (ap (find (λ x. l.state.number == op.client && x.k == op.k)) rows ∙ e) (refusal kind which) (row_owns r kind which k)
+      by (Some kind) k = then_own at (taken sender (Choice op a)) quiet (what.Chosen op a) refl refl (λ o. Unit {0}) (nothing _) (λ x. l.state.number == op.client && x.k == op.k) r (ap (find (λ x. l.state.number == op.client && x.k == op.k)) rows ∙ e) (refusal kind which) (λ o one u. (row_owns r kind which k o one, inl (record { kind = kind; which = which; is_it = refl; cause = cause (ms ++ record { entry = record { part = Client l.state.number; at = at; what = what.Chosen op a }; mark = taken sender (Choice op a) } ∷ record { entry = record { part = Client l.state.number; at = at; what = what.Out r.request.id (refusal kind which) }; mark = None } ∷ []) (later_operation (record { part = Client l.state.number; at = at; what = what.Out r.request.id (refusal kind which) }) o) ∙ causes kind k o one op (row_name op r e) })))
 
   chosen_turn : (at : ℕ) (sender : PartName) (op : OpName) (a : Answer) → Turn (client_turn_of l.state.number at (taken sender (Choice op a)) (what.Chosen op a ∷ whats_for (row_named l.state op) a))
   chosen_turn at sender op a = by (row_named l.state op) a refl
@@ -161,15 +177,34 @@ module _ (s : Settings) (c : ℕ) (ms : List Marked) (l : ClientLedger) (lives :
       by None Busy e = zero at (taken sender (Choice op Busy)) (what.Chosen op Busy ∷ []) (quiet Busy) refl
       by None Unavailable e = zero at (taken sender (Choice op Unavailable)) (what.Chosen op Unavailable ∷ []) (quiet Unavailable) refl
       by (Some r) (Go n b) e = zero at (taken sender (Choice op (Go n b))) (what.Chosen op (Go n b) ∷ []) (quiet (Go n b)) refl
-      by (Some r) Busy e = chosen_refused at sender op Busy r C1 e refl
-      by (Some r) Unavailable e = chosen_refused at sender op Unavailable r C3 e refl
+      by (Some r) Busy e = chosen_refused at sender op Busy r C1 refl (λ list o. refl) e refl
+      by (Some r) Unavailable e = chosen_refused at sender op Unavailable r C3 refl (λ list o. refl) e refl
 
   failed_turn : (at : ℕ) (sender : PartName) (op : OpName) (which : Refusal) (r : ClientRow) → row_named l.state op ≡ Some r → Turn (client_turn_of l.state.number at (taken sender (Failed op which)) (refused r.request which))
-  failed_turn at sender op which r e u = by (kind_of r.request.rest) refl
+  failed_turn at sender op which r e u = by (kind_of r.request.rest) refl u
     where
-      by : (o : Option OpKind) → kind_of r.request.rest ≡ o → Ops s c (ms ++ client_turn_of l.state.number at (taken sender (Failed op which)) (elim o [ None ↦ [] | Some kind ↦ what.Out r.request.id (refusal kind which) ∷ [] ]))
-      by None k = subst (Ops s c) (sym (append-nil ms)) ops
-      by (Some kind) k = ops_own s c l.state.number at (taken sender (Failed op which)) ms l.state lives once (λ x. l.state.number == op.client && x.k == op.k) r e (refusal kind which) (λ o. Unit {0}) (nothing _) (λ n. refl) (row_owns r kind which k) ops
+      -- it is one that may be told for the operation's request
+      loss_of : (x : Refusal) (a b : Message) → wants_identity s a ≡ wants_identity s b → is_loss s a x ≡ true → is_loss s b x ≡ true
+      loss_of C4 a b same k = refl
+      loss_of C5 a b same k = refl
+      loss_of C9 a b same k = sym same ∙ k
+      loss_of _ a b same k = absurd (let bad : false ≡ true = k in cc)
+
+      losses : (x : Option Expected) → expected_from l sender op ≡ x → passes (λ y. is_loss s y.request which) x ≡ true → Each (λ o. same_op op o.name ≡ true → is_loss s o.request which ≡ true) (operations c (entries ms))
+      losses None f k = absurd (let bad : false ≡ true = k in cc)
+      losses (Some x) f k =
+          let named : op ≡ x.op = same_op_eq op x.op (left (same_op op x.op) _ (found_passes (λ y. same_op op y.op && same_part sender (Connection y.connection)) l.expected x f)) in
+          each_imply (λ o. same_op x.op o.name ≡ true → Carries s x.request o) (λ o. same_op op o.name ≡ true → is_loss s o.request which ≡ true) (operations c (entries ms)) (λ o g j. loss_of which x.request o.request (g (ap (λ n. same_op n o.name) (sym named) ∙ j)).wants k) (each_found (ExpectKnown s c (entries ms)) (λ y. same_op op y.op && same_part sender (Connection y.connection)) l.expected x f h.expected).same
+
+      known : is_unfit (fits_client s) l (taken sender (Failed op which)) ≡ false → Each (λ o. same_op op o.name ≡ true → is_loss s o.request which ≡ true) (operations c (entries ms))
+      known f = losses (expected_from l sender op) refl (not_false (fits_client s l sender (Failed op which)) f)
+
+      named_by : (o : Operation) → TheOne c r o → same_op op o.name ≡ true
+      named_by o one = ap (λ n. same_op n o.name) (sym (row_name op r e)) ∙ one.named
+
+      by : (o : Option OpKind) → kind_of r.request.rest ≡ o → Turn (client_turn_of l.state.number at (taken sender (Failed op which)) (elim o [ None ↦ [] | Some kind ↦ what.Out r.request.id (refusal kind which) ∷ [] ]))
+      by None k f = subst (Ops s c) (sym (append-nil ms)) ops
+      by (Some kind) k f = ops_own s c l.state.number at (taken sender (Failed op which)) ms l.state lives once (λ x. l.state.number == op.client && x.k == op.k) r e (refusal kind which) (λ o. same_op op o.name ≡ true → is_loss s o.request which ≡ true) (known f) (λ n. refl) (λ o one g. (row_owns r kind which k o one, inl (record { kind = kind; which = which; is_it = refl; cause = failed_cause s ms (record { part = Client l.state.number; at = at; what = what.Out r.request.id (refusal kind which) }) sender op which o (same_op_sym o.name op ∙ named_by o one) (g (named_by o one)) }))) ops
 
   -- A message, and what its check puts behind it.
   module _ (at : ℕ) (m : Message) where
@@ -198,19 +233,22 @@ module _ (s : Settings) (c : ℕ) (ms : List Marked) (l : ClientLedger) (lives :
         by true = alone
         by false = behind_all l.state.rows lives.within
 
-    -- its operation's request is the message
-    requests : makes_operation m ≡ true → Each (λ o. same_op (record { client = c; k = suc l.state.count }) o.name ≡ true → m ≡ o.request) (operations c (entries (ms ++ came ∷ [])))
-    requests makes = subst (λ b. Each (λ o. same_op (record { client = c; k = suc l.state.count }) o.name ≡ true → m ≡ o.request) (operations c b)) (sym (map-append (λ x. x.entry) ms (came ∷ []))) (each_grows (λ o. same_op (record { client = c; k = suc l.state.count }) o.name ≡ true → m ≡ o.request) c (entries ms) came.entry (each_imply (λ o. is_named_within c (length (operations c (entries ms))) o ≡ true) (λ o. same_op (record { client = c; k = suc l.state.count }) o.name ≡ true → m ≡ o.request) (operations c (entries ms)) (λ o k j. not_both (suc (length (operations c (entries ms))) == o.name.k) (ap (λ n. suc n == o.name.k) (sym lives.count) ∙ right (c == o.name.client) _ j) (fresh_number c (entries ms) o k)) (named_each c (entries ms))) (λ x e j. let same : Some m ≡ Some x = sym (ap put makes) ∙ e in (let equal : m ≡ x = cc in equal)))
+    -- its operation is new
+    abbrev NewOf : List Entry → Operation → Type 0
+    NewOf since o = same_op (record { client = c; k = suc l.state.count }) o.name ≡ true → IsNew c m (entries ms) since o
+
+    requests : makes_operation m ≡ true → Each (NewOf []) (operations c (entries (ms ++ came ∷ [])))
+    requests makes = subst (λ b. Each (NewOf []) (operations c b)) (sym (map-append (λ x. x.entry) ms (came ∷ []))) (each_grows (NewOf []) c (entries ms) came.entry (each_imply (λ o. is_named_within c (length (operations c (entries ms))) o ≡ true) (λ o. NewOf [] (later_operation came.entry o)) (operations c (entries ms)) (λ o k j. not_both (suc (length (operations c (entries ms))) == o.name.k) (ap (λ n. suc n == o.name.k) (sym lives.count) ∙ right (c == o.name.client) _ j) (fresh_number c (entries ms) o k)) (named_each c (entries ms))) (λ x e j. let same : Some m ≡ Some x = sym (ap put makes) ∙ e in (let equal : m ≡ x = cc in record { client = refl; request = equal; before = refl; since = refl })))
       where
         put : Bool → Option Message
         put b = elim b [ true ↦ Some (record { id = m.id; rest = m.rest }) | false ↦ None ]
 
-    abbrev NewOf : Operation → Type 0
-    NewOf o = same_op (record { client = c; k = suc l.state.count }) o.name ≡ true → m ≡ o.request
+    abbrev answer_out : List ℕ → Marked
+    answer_out rest = record { entry = record { part = Client l.state.number; at = at; what = what.Out m.id rest }; mark = None }
 
     -- it is answered by the proxy itself
-    own_turn : (kind : OpKind) → kind_of m.rest ≡ Some kind → is_end (check_at s l.state m) ≡ false → (rest : List ℕ) → IsOwn s m rest → Ops s c (ms ++ client_turn_of l.state.number at None (what.In m.id m.rest ∷ what.Out m.id rest ∷ []))
-    own_turn kind k e rest own = then_own at None unmarked (what.In m.id m.rest) refl (free_by s l.state m e) NewOf (requests makes) (λ x. x.k == suc l.state.count) (new_row s l.state m) (new_there makes) rest (λ o one f. subst (λ (x : Message). IsOwn s x rest) (f one.named) own)
+    own_turn : (kind : OpKind) → kind_of m.rest ≡ Some kind → is_end (check_at s l.state m) ≡ false → (rest : List ℕ) → IsOwn s m rest → ((o : Operation) → IsNew c m (entries ms) [] o → Caused s (ms ++ came ∷ answer_out rest ∷ []) (later_operation (answer_out rest).entry o) rest) → Ops s c (ms ++ client_turn_of l.state.number at None (what.In m.id m.rest ∷ what.Out m.id rest ∷ []))
+    own_turn kind k e rest own cause = then_own at None unmarked (what.In m.id m.rest) refl (free_by s l.state m e) (NewOf []) (requests makes) (λ x. x.k == suc l.state.count) (new_row s l.state m) (new_there makes) rest (λ o one f. (subst (λ (x : Message). IsOwn s x rest) (f one.named).request own, cause o (f one.named)))
       where
         makes : makes_operation m ≡ true
         makes = kind_makes m kind k (checked_id s l.state m e)
@@ -220,7 +258,7 @@ module _ (s : Settings) (c : ℕ) (ms : List Marked) (l : ClientLedger) (lives :
       where
         by : (o : Option OpKind) → kind_of m.rest ≡ o → Ops s c (ms ++ client_turn_of l.state.number at None (what.In m.id m.rest ∷ (elim o [ None ↦ [] | Some kind ↦ what.Out m.id (refusal kind which) ∷ [] ])))
         by None k = zero at None (what.In m.id m.rest ∷ []) unmarked refl u
-        by (Some kind) k = own_turn kind k (ap is_end e) (refusal kind which) (refusal_own s m kind which k)
+        by (Some kind) k = own_turn kind k (ap is_end e) (refusal kind which) (refusal_own s m kind which k) (λ o new. refused_new s c ms l.state state l.state.number at m kind which (came ∷ answer_out (refusal kind which) ∷ []) o k e new)
 
     -- an answer to a Cancel
     cancel_is_own : (kind : OpKind) (which : CancelAnswer) → kind_of m.rest ≡ Some kind → is_cancel m.rest ≡ true → IsOwn s m (cancel_answer kind which)
@@ -241,7 +279,7 @@ module _ (s : Settings) (c : ℕ) (ms : List Marked) (l : ClientLedger) (lives :
       where
         by : (o : Option OpKind) → kind_of m.rest ≡ o → Ops s c (ms ++ client_turn_of l.state.number at None (what.In m.id m.rest ∷ canceled m.id o which))
         by None k = zero at None (what.In m.id m.rest ∷ []) unmarked refl u
-        by (Some kind) k = own_turn kind k (ap is_end e) (cancel_answer kind which) (cancel_is_own kind which k (of_cancel s (facts_of l.state) m (ap is_of_cancel e)))
+        by (Some kind) k = own_turn kind k (ap is_end e) (cancel_answer kind which) (cancel_is_own kind which k (of_cancel s (facts_of l.state) m (ap is_of_cancel e))) (λ o new. answered_new s c ms l.state state l.state.number at m kind which (came ∷ answer_out (cancel_answer kind which) ∷ []) o k e new)
 
     -- a Cancel of a live operation: that is told, and then the Cancel is answered
     module _ (id : ℕ) (kind : OpKind) (e : check_at s l.state m ≡ Cancels id kind) where
@@ -294,7 +332,7 @@ module _ (s : Settings) (c : ℕ) (ms : List Marked) (l : ClientLedger) (lives :
       told = (ms ++ came ∷ []) ++ canceled_out ∷ []
 
       ops_told : Ops s c told
-      ops_told = ops_own s c l.state.number at None (ms ++ came ∷ []) state_in (lives_behind at None unmarked (what.In m.id m.rest) refl free) (once_behind at None unmarked (what.In m.id m.rest) refl free) (λ r. may_be_canceled id (live_request r.request)) the_row.row there_in (cancel_answer kind C13) (λ o. Unit {0}) (nothing _) (λ op. refl) (λ o one u. canceled_own s o.request kind (sym one.match.kind ∙ the_row.kind_is) no_bind) (ops_behind at None unmarked (what.In m.id m.rest) refl free)
+      ops_told = ops_own s c l.state.number at None (ms ++ came ∷ []) state_in (lives_behind at None unmarked (what.In m.id m.rest) refl free) (once_behind at None unmarked (what.In m.id m.rest) refl free) (λ r. may_be_canceled id (live_request r.request)) the_row.row there_in (cancel_answer kind C13) (λ o. Unit {0}) (nothing _) (λ op. refl) (λ o one u. (canceled_own s o.request kind (sym one.match.kind ∙ the_row.kind_is) no_bind, subst (λ b. Caused s b (later_operation canceled_out.entry o) (cancel_answer kind C13)) (sym (append_assoc ms (came ∷ []) (canceled_out ∷ []))) (canceled_cause s c ms l.state state l.state.number at the_row.row o one (row_lives s c (entries ms) l.state lives once h.known.rows (λ r. may_be_canceled id (live_request r.request)) the_row.row the_row.found) kind the_row.kind_is m None id None its_id e))) (ops_behind at None unmarked (what.In m.id m.rest) refl free)
 
       lives_told : ClientLives c (entries told) state_out
       lives_told = subst (λ b. ClientLives c b state_out) (sym (map-append (λ x. x.entry) (ms ++ came ∷ []) (canceled_out ∷ []))) (lives_through s c l.state.number at (what.Out the_row.row.request.id (cancel_answer kind C13) ∷ []) None (entries (ms ++ came ∷ [])) state_in (lives_behind at None unmarked (what.In m.id m.rest) refl free) (refl, tt))
@@ -311,12 +349,12 @@ module _ (s : Settings) (c : ℕ) (ms : List Marked) (l : ClientLedger) (lives :
       still_there : find (λ x. x.k == suc l.state.count) state_out.rows ≡ Some (new_row s l.state m)
       still_there = ap (find (λ x. x.k == suc l.state.count)) rows_told ∙ found_kept (λ x. x.k == suc l.state.count) (λ x. not (x.request.id == the_row.row.request.id && is_final_for x.request (cancel_answer kind C13))) state_in.rows (new_row s l.state m) (new_there makes) (ap (λ b. not (b && is_final_for (new_row s l.state m).request (cancel_answer kind C13))) other)
 
-      requests_told : Each NewOf (operations c (entries told))
-      requests_told = subst (λ b. Each NewOf (operations c b)) (sym (map-append (λ x. x.entry) (ms ++ came ∷ []) (canceled_out ∷ []))) (each_grows NewOf c (entries (ms ++ came ∷ [])) canceled_out.entry (requests makes) (λ x k j. absurd (let bad : None ≡ Some x = k in cc)))
+      requests_told : Each (NewOf (canceled_out.entry ∷ [])) (operations c (entries told))
+      requests_told = subst (λ b. Each (NewOf (canceled_out.entry ∷ [])) (operations c b)) (sym (map-append (λ x. x.entry) (ms ++ came ∷ []) (canceled_out ∷ []))) (each_grows (NewOf (canceled_out.entry ∷ [])) c (entries (ms ++ came ∷ [])) canceled_out.entry (each_imply (NewOf []) (λ o. NewOf (canceled_out.entry ∷ []) (later_operation canceled_out.entry o)) (operations c (entries (ms ++ came ∷ []))) (λ o f j. let new : IsNew c m (entries ms) [] o = f j in record { client = new.client; request = new.request; before = new.before; since = ap (λ b. b ++ canceled_out.entry ∷ []) new.since }) (requests makes)) (λ x k j. absurd (let bad : None ≡ Some x = k in cc)))
 
       canceled_all_of : (o : Option OpKind) → kind_of m.rest ≡ o → Ops s c (ms ++ client_turn_of l.state.number at None (what.In m.id m.rest ∷ what.Out the_row.row.request.id (cancel_answer kind C13) ∷ canceled m.id o S1))
       canceled_all_of None k = subst (Ops s c) (append_assoc ms (came ∷ []) (canceled_out ∷ [])) ops_told
-      canceled_all_of (Some sort) k = subst (Ops s c) (append_assoc (ms ++ came ∷ []) (canceled_out ∷ []) (last ∷ []) ∙ append_assoc ms (came ∷ []) (canceled_out ∷ last ∷ [])) (ops_own s c l.state.number at None told state_out lives_told once_told (λ x. x.k == suc l.state.count) (new_row s l.state m) still_there (cancel_answer sort S1) NewOf requests_told (λ op. refl) (λ o one f. subst (λ (x : Message). IsOwn s x (cancel_answer sort S1)) (f one.named) (cancel_is_own sort S1 k (of_cancel s (facts_of l.state) m (ap is_of_cancel e)))) ops_told)
+      canceled_all_of (Some sort) k = subst (Ops s c) (append_assoc (ms ++ came ∷ []) (canceled_out ∷ []) (last ∷ []) ∙ append_assoc ms (came ∷ []) (canceled_out ∷ last ∷ [])) (ops_own s c l.state.number at None told state_out lives_told once_told (λ x. x.k == suc l.state.count) (new_row s l.state m) still_there (cancel_answer sort S1) (NewOf (canceled_out.entry ∷ [])) requests_told (λ op. refl) (λ o one f. (subst (λ (x : Message). IsOwn s x (cancel_answer sort S1)) (f one.named).request (cancel_is_own sort S1 k (of_cancel s (facts_of l.state) m (ap is_of_cancel e))), subst (λ b. Caused s b (later_operation last.entry o) (cancel_answer sort S1)) (sym (append_assoc (ms ++ came ∷ []) (canceled_out ∷ []) (last ∷ []) ∙ append_assoc ms (came ∷ []) (canceled_out ∷ last ∷ []))) (succeeds_new s c ms l.state state l.state.number at the_row.row.request.id m sort kind (came ∷ canceled_out ∷ last ∷ []) o k (e ∙ ap (λ n. Cancels n kind) (sym its_id)) (eqb_sym the_row.row.request.id m.id ∙ other) (f one.named)))) ops_told)
         where
           last : Marked
           last = record { entry = record { part = Client l.state.number; at = at; what = what.Out m.id (cancel_answer sort S1) }; mark = None }

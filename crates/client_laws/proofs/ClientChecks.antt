@@ -66,7 +66,7 @@ module _ (u at : ℕ) (m : Message) where
   followed GoesOn f = refl
 
 -- and stays so with more behind
-followed_stays : (m : Message) (k : Check) (c d : List Entry) → is_followed_up m c k ≡ true → is_followed_up m (c ++ d) k ≡ true
+pub followed_stays : (m : Message) (k : Check) (c d : List Entry) → is_followed_up m c k ≡ true → is_followed_up m (c ++ d) k ≡ true
 followed_stays m (Ends why) [] d h = absurd (let bad : false ≡ true = h in cc)
 followed_stays m (Ends why) (e ∷ c) d h = both (is_notice e) _ (left (is_notice e) _ h) (first_stays (is_gone_by why) c d (right (is_notice e) _ h))
 followed_stays m Unbinds c d h = first_stays (is_gone_by Left) c d h

@@ -52,13 +52,17 @@ use Rattle.client_share_laws.proofs.RowsGone.{row_open, event_gone}
 use Rattle.client_share_laws.proofs.ClientKept.{kept_always}
 
 -- the entries of a client's list are its own
-own_list : (c : ℕ) (es : List Entry) → list_all (λ e. same_part (Client c) e.part) es ≡ true → of_part (Client c) es ≡ es
+pub own_list : (c : ℕ) (es : List Entry) → list_all (λ e. same_part (Client c) e.part) es ≡ true → of_part (Client c) es ≡ es
 own_list c [] h = refl
 own_list c (e ∷ es) h = ap (λ b. cond b (e ∷ of_part (Client c) es) (of_part (Client c) es)) (left (same_part (Client c) e.part) _ h) ∙ ap (λ l. e ∷ l) (own_list c es (right (same_part (Client c) e.part) _ h))
 
-own_entries : (c u at : ℕ) (ws : List What) → (c == u) ≡ true → list_all (λ e. same_part (Client c) e.part) (entries_of (Client u) at ws) ≡ true
+pub own_entries : (c u at : ℕ) (ws : List What) → (c == u) ≡ true → list_all (λ e. same_part (Client c) e.part) (entries_of (Client u) at ws) ≡ true
 own_entries c u at [] h = refl
 own_entries c u at (w ∷ ws) h = both (c == u) _ h (own_entries c u at ws h)
+
+-- with a turn more
+pub event_own : (s : Settings) (c : ℕ) (before : List Marked) (p : ClientState) (x : Event) → p.number ≡ c → list_all (λ e. same_part (Client c) e.part) (entries before) ≡ true → list_all (λ e. same_part (Client c) e.part) (entries (before ++ made (client_event s) p x)) ≡ true
+event_own s c before p x number h = ap (list_all (λ e. same_part (Client c) e.part)) (map-append (λ m. m.entry) before (made (client_event s) p x)) ∙ list_all-append (λ e. same_part (Client c) e.part) (entries before) (entries (made (client_event s) p x)) ∙ both (list_all (λ e. same_part (Client c) e.part) (entries before)) _ h (event_case s p (λ ms. list_all (λ e. same_part (Client c) e.part) (entries ms) ≡ true) (any_case s p (λ ms. list_all (λ e. same_part (Client c) e.part) (entries ms) ≡ true) (λ at mark ws. ap (list_all (λ e. same_part (Client c) e.part)) (entries_marked mark (entries_of (Client p.number) at ws)) ∙ own_entries c p.number at ws (eq_eqb c p.number (sym number)))) x)
 
 -- an operation has an identifier last, in a longer list
 abbrev Has : ℕ → List Entry → ℕ → Type 0
@@ -212,7 +216,7 @@ module _ (c : ℕ) where
   kept_more s before p x h k =
       let grown : entries (before ++ made (client_event s) p x) ≡ entries before ++ entries (made (client_event s) p x) = map-append (λ m. m.entry) before (made (client_event s) p x) in
       record {
-        own = ap (list_all (λ e. same_part (Client c) e.part)) grown ∙ list_all-append (λ e. same_part (Client c) e.part) (entries before) (entries (made (client_event s) p x)) ∙ both (list_all (λ e. same_part (Client c) e.part) (entries before)) _ k.own (event_case s p (λ ms. list_all (λ e. same_part (Client c) e.part) (entries ms) ≡ true) (any_case s p (λ ms. list_all (λ e. same_part (Client c) e.part) (entries ms) ≡ true) (λ at mark ws. ap (list_all (λ e. same_part (Client c) e.part)) (entries_marked mark (entries_of (Client p.number) at ws)) ∙ own_entries c p.number at ws (eq_eqb c p.number (sym h.says.number)))) x);
+        own = event_own s c before p x h.says.number k.own;
         empty = event_gone s p k.empty x;
         outs = ap (each_split_from is_right_out []) grown ∙ splits_grow is_right_out [] (entries before) (entries (made (client_event s) p x)) (right_stays (entries (made (client_event s) p x))) k.outs (event_case s p (TurnRight s (entries before) p h.lives h.says.gone k.empty) (right_cases s (entries before) p h.lives h.says.gone k.empty) x);
       }

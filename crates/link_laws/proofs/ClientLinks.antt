@@ -1,4 +1,4 @@
--- What a client gave is what its list gives, where links end for reasons that a link has.
+-- What a client gave is what its list gives, and its list keeps its share, where links end for reasons that a link has.
 use Rattle.std.proofs.Common.{◌≡◌, ℕ, true, false, List, [], ◌∷◌, refl, ap, ◌∙◌, sym, subst}
 use Rattle.lload_names.specs.declared.names.PartName.TheVariants.{Client}
 use Rattle.lload_spec.specs.Settings.{Settings}
@@ -9,13 +9,15 @@ use Rattle.part_spec.specs.Gives.{gives}
 use Rattle.part_spec.specs.Marked.{Marked, letters_to}
 use Rattle.part_spec.specs.Marks.{has_right_marks}
 use Rattle.part_spec.specs.Merge.{Intake, Takes, Severed, PartMove, world_of}
+use Rattle.part_spec.specs.Share.{Share}
 use Rattle.part_spec.specs.World.{World, client_in, list_in}
 use Rattle.part_laws.specs.Turns.{no_effects}
 use Rattle.client_laws.specs.Turns.{client_event}
 use Rattle.client_laws.proofs.ClientGives.{client_gives_so}
 use Rattle.client_laws.proofs.ClientMarks.{client_marks}
+use Rattle.client_answer_laws.proofs.Shares.{client_shares}
 use Rattle.link_laws.specs.Moves.{waiting_between, effects_in, ends_rightly, end_rightly}
-use Rattle.link_laws.specs.Laws.{StatesAreOfLists, ClientsGiveLaw, ClientLinksLaw, ClientMarksLaw}
+use Rattle.link_laws.specs.Laws.{StatesAreOfLists, ClientsGiveLaw, ClientLinksLaw, ClientMarksLaw, ClientSharesLaw}
 use Rattle.link_laws.proofs.Links.{links}
 use Rattle.link_laws.proofs.PartLists.{Played, event_of, played}
 
@@ -43,6 +45,11 @@ pub client_marks_in : ClientMarksLaw
 client_marks_in s ms c k =
     let h = client_played s ms c k in
     subst (λ l. has_right_marks s (Client c) l ≡ true) h.lists (client_marks s c h.events)
+
+pub client_shares_in : ClientSharesLaw
+client_shares_in s ms c k =
+    let h = client_played s ms c k in
+    subst (Share s (Client c)) h.lists (client_shares s c h.events)
 
 pub client_links : ClientLinksLaw
 client_links s ms c k marks q = (waiting_between (world_of s ms) (Client c) q, ap (letters_to q) (clients_give_in s ms c k) ∙ links s ms marks (Client c) q)

@@ -101,6 +101,12 @@ ClientMarksLaw =
     (s : Settings) (ms : List PartMove) (c : ℕ) → IsTrue (end_rightly ms)
     → IsTrue (has_right_marks s (Client c) (list_in (world_of s ms) (Client c)))
 
+-- and each client's list keeps its share, up to the first letter that isn't fit
+abbrev pub ClientSharesLaw : Type 0
+ClientSharesLaw =
+    (s : Settings) (ms : List PartMove) (c : ℕ) → IsTrue (end_rightly ms)
+    → Share s (Client c) (list_in (world_of s ms) (Client c))
+
 -- where links end for reasons that a link has, each connection's list keeps its share, up to the first letter that isn't
 -- fit
 abbrev pub ConnectionSharesLaw : Type 0

@@ -4,7 +4,7 @@
 //! moves make from the beginning.
 #![tactic(auto)]
 
-ghost use Rattle.link_laws.specs.Laws.{ClientLinksLaw, ClientMarksLaw, ClientsGiveLaw, ConnectionLinksLaw, ConnectionSharesLaw, ConnectionsGiveLaw, DeskGivesLaw, DeskLinksLaw, DeskSharesLaw, DeskTurnsGive, EntriesLaw, LaterLaw, LinksLaw, LinksStay, StatesLaw, TurnsLaw, WorldsLinkedLaw};
+ghost use Rattle.link_laws.specs.Laws.{ClientLinksLaw, ClientMarksLaw, ClientSharesLaw, ClientsGiveLaw, ConnectionLinksLaw, ConnectionSharesLaw, ConnectionsGiveLaw, DeskGivesLaw, DeskLinksLaw, DeskSharesLaw, DeskTurnsGive, EntriesLaw, LaterLaw, LinksLaw, LinksStay, StatesLaw, TurnsLaw, WorldsLinkedLaw};
 
 /// Where each letter that was taken has a mark, what each part gave another is what this one took, and then what waits;
 /// and each mark has a greater stamp than its letter.
@@ -32,11 +32,13 @@ pub fn the_desk_is_linked()
 {}
 
 /// Where links end for reasons that a link has, what each client gave is what its list gives: so, where each letter that was
-/// taken has a mark, what each part took from it is a beginning of that. Each entry of its list has the right mark.
+/// taken has a mark, what each part took from it is a beginning of that. Each entry of its list has the right mark, and its list
+/// keeps its share, up to the first letter that isn't fit.
 pub fn clients_are_linked()
     ensures gives { ClientsGiveLaw }
     ensures beginning { ClientLinksLaw }
     ensures marks { ClientMarksLaw }
+    ensures shares { ClientSharesLaw }
 {}
 
 /// Where links end for reasons that a link has, each connection's list keeps its share, up to the first letter that isn't
