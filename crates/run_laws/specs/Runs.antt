@@ -1,0 +1,23 @@
+-- What is proved of every run of the parts, as statements.
+use Rattle.std.specs.Prelude.{List, IsTrue}
+use Rattle.lload_spec.specs.Settings.{Settings}
+use Rattle.lload_spec.specs.Journal.{Family, family}
+use Rattle.part_spec.specs.Merge.{PartMove, world_of}
+use Rattle.part_spec.specs.World.{journal_of, list_in}
+use Rattle.link_laws.specs.Moves.{end_rightly}
+use Rattle.promise_laws.specs.OneList.{Shared, OfOneList}
+
+-- the family of the journal of a run
+abbrev pub family_of_run : Settings → List PartMove → Family
+family_of_run s ms = family (journal_of (world_of s ms))
+
+-- where links end for reasons that a link has, each part's list keeps the part's share
+abbrev pub RunsAreShared : Type 0
+RunsAreShared =
+    (s : Settings) (ms : List PartMove) → IsTrue (end_rightly ms)
+    → Shared s (family_of_run s ms) (list_in (world_of s ms))
+
+-- and the journal keeps what the promises say of one list alone
+abbrev pub RunsKeepOneList : Type 0
+RunsKeepOneList =
+    (s : Settings) (ms : List PartMove) → IsTrue (end_rightly ms) → OfOneList s (family_of_run s ms)

@@ -1,0 +1,29 @@
+//! The promises, of every run of the parts.
+//!
+//! A run is any list of moves of the parts: events in any order, and ends of links for reasons that a link has. Its journal is
+//! that of the world that the moves make. The functions state laws of all runs, and rest on those of shares, links and
+//! fitness.
+#![tactic(auto)]
+
+ghost use Rattle.run_laws.specs.Runs.{RunsAreShared, RunsKeepOneList};
+
+/// In every run each part's list keeps the part's whole share of the promises: each letter was fit where it was taken.
+pub fn parts_keep_their_shares_in_runs()
+    ensures { RunsAreShared }
+{
+    part_spec::a_fit_list_begins_with_all_of_it();
+    link_laws::states_are_of_lists();
+    link_laws::the_desk_is_linked();
+    link_laws::clients_are_linked();
+    link_laws::connections_are_linked();
+    bind_moves_laws::turns_of_bind_connections_are_moves();
+    fitness_laws::letters_are_fit_where_bind_connections_make_moves();
+}
+
+/// So the journal of every run keeps what the promises say of one list alone.
+pub fn promises_of_one_list_hold_of_runs()
+    ensures { RunsKeepOneList }
+{
+    parts_keep_their_shares_in_runs();
+    promise_laws::shares_give_what_is_said_of_one_list();
+}
