@@ -7,8 +7,8 @@
 ghost use Rattle.stands_laws.specs.Follows.{BindEndsLaw, BindFollowsLaw};
 
 /// What a bind connection makes of an input is what some moves make: its state behind it stands for the machine's
-/// connection, each letter that it gives has one of the machine, and the letter that it took has left its queue in both. The
-/// same of the end of its link.
+/// connection, each letter that it gives has one of the machine, and the letter that it took has left its queue in
+/// both. The same of the end of its link.
 pub fn turns_of_bind_connections_are_moves()
     ensures inputs { BindFollowsLaw }
     ensures ends { BindEndsLaw }
