@@ -1,6 +1,8 @@
 -- The empty machine stands for the empty world.
-use Rattle.std.proofs.Common.{ℕ, Bool, true, false, refl, arith}
-use Rattle.lload_spec.specs.Settings.{Settings}
+use Rattle.std.proofs.Common.{◌≡◌, ℕ, Bool, true, false, if◌then◌else◌, refl, arith}
+use Rattle.lload_names.specs.declared.names.ConnKind.TheVariants.{Regular, Bind as BindKind}
+use Rattle.lload_spec.specs.Settings.{Settings, is_kind, is_of_kind}
+use Rattle.part_spec.specs.ConnectionState.{kind_at}
 use Rattle.part_spec.specs.Fit.{empty_client_ledger, empty_connection_ledger, empty_desk_ledger}
 use Rattle.move_laws.specs.Moves.{no_client, no_conn, no_desk}
 use Rattle.stands_laws.specs.Books.{Book}
@@ -65,21 +67,31 @@ no_regular s b u = record {
   undrained = refl;
 }
 
-no_bind : (s : Settings) (b : Book) (u : ℕ) → BindStands s b u (empty_connection_ledger s u) no_conn
-no_bind s b u = record {
+-- a connection that serves Binds is of that kind
+kind_served : (s : Settings) (u : ℕ) → serves s u ≡ true → kind_at s u ≡ BindKind
+kind_served s u e = go (is_of_kind s BindKind u) e
+  where
+    go : (t : Bool) → is_kind BindKind (if t then BindKind else Regular) ≡ true → (if t then BindKind else Regular) ≡ BindKind
+    go true h = refl
+    go false h = absurd (cc)
+
+no_bind : (s : Settings) (b : Book) (u : ℕ) → serves s u ≡ true → BindStands s b u (empty_connection_ledger s u) no_conn
+no_bind s b u e = record {
   link = no_link s u;
+  kind = kind_served s u e;
   taken = record { forwards = λ c k. refl; leaves = λ c h f e. absurd (cc) };
   own = refl;
   holder = refl;
   lost = refl;
   rows = tt;
+  free = tt;
   live = λ c k. refl;
   fallen = λ e. absurd (cc);
 }
 
-no_conn_stands : (s : Settings) (b : Book) (u : ℕ) (t : Bool) → stands_by t s b u (empty_connection_ledger s u) no_conn
-no_conn_stands s b u true = no_bind s b u
-no_conn_stands s b u false = no_regular s b u
+no_conn_stands : (s : Settings) (b : Book) (u : ℕ) (t : Bool) → serves s u ≡ t → stands_by t s b u (empty_connection_ledger s u) no_conn
+no_conn_stands s b u true e = no_bind s b u e
+no_conn_stands s b u false e = no_regular s b u
 
 no_desk_stands : (b : Book) → DeskStands b empty_desk_ledger no_desk
 no_desk_stands b = record {
@@ -96,7 +108,7 @@ no_desk_stands b = record {
 pub beginning : EmptyLaw
 beginning s b = record {
   clients = λ c. no_client_is s b c;
-  conns = λ u. no_conn_stands s b u (serves s u);
+  conns = λ u. no_conn_stands s b u (serves s u) refl;
   desk = no_desk_stands b;
   asks = λ c. tt;
   choices = λ c. tt;

@@ -2,6 +2,7 @@
 use Rattle.std.specs.Prelude.{◌≡◌, ℕ, ◌<◌, true, false, ◌==◌, List, [], ◌∷◌, Option, Some, None}
 use Rattle.ldap_spec.specs.Kinds.{kind_of}
 use Rattle.ldap_spec.specs.Responses.{has_code}
+use Rattle.lload_names.specs.declared.names.ConnKind.TheVariants.{Bind as BindKind}
 use Rattle.lload_names.specs.declared.names.OpName.{OpName}
 use Rattle.lload_names.specs.declared.names.OpKind.TheVariants.{Bind}
 use Rattle.lload_names.specs.declared.names.PartName.TheVariants.{Client}
@@ -12,6 +13,7 @@ use Rattle.part_spec.specs.ConnectionState.{UpRow, Kept}
 use Rattle.part_spec.specs.Fit.{ConnectionLedger, answers, is_forward_for, is_leave_of, is_taken_last}
 use Rattle.part_spec.specs.Marked.{Taken}
 use Rattle.move_laws.specs.World.{Op, Conn, is}
+use Rattle.stands_laws.specs.Lists.{Each}
 use Rattle.stands_laws.specs.Books.{Book, name}
 use Rattle.stands_laws.specs.RegularStands.{LinkStands, ForwardsTaken}
 
@@ -53,11 +55,14 @@ BindRows s b (r ∷ rs) (Some o) = BindRow s b r o × (rs ≡ [])
 
 pub record BindStands (s : Settings) (b : Book) (u : ℕ) (l : ConnectionLedger) (v : Conn) : Type 0 where
   pub link : LinkStands s u l.state v
+  pub kind : l.state.kind ≡ BindKind
   pub taken : BindTaken b l.taken v
   pub own : l.state.own_bind ≡ None
   pub holder : l.state.holder ≡ name_of v.holder
   pub lost : l.state.lost ≡ name_of v.lost
   pub rows : BindRows s b l.state.rows v.now
+  -- no identifier that is free is 0
+  pub free : Each (λ n. 0 < n) l.state.ids.free
   -- the live Bind stands here, and nothing else
   pub live : (c k : ℕ) → v.rows c k ≡ is v.now c k
   pub fallen : l.state.down ≡ true → v.now ≡ None

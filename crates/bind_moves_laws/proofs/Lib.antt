@@ -1,0 +1,11 @@
+pub mod ConnGives
+pub mod Gives
+pub mod Rules
+pub mod Steps
+pub mod Ends
+pub mod TakenLetters
+pub mod Orders
+pub mod RowAnswers
+pub mod Messages
+pub mod Turns
+pub mod BindFollowing
