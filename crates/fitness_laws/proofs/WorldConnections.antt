@@ -1,4 +1,4 @@
--- The same behind a turn of a connection, where the turns of bind connections make what moves make.
+-- The same behind a turn of a connection.
 use Rattle.std.proofs.Common.{◌≡◌, ℕ, Bool, true, false, if◌then◌else◌, List, [], ◌∷◌, refl, ap, ◌∙◌, sym, subst}
 use Rattle.std.specs.Prelude.{Option, Some, None, is_some, map, max}
 use Rattle.lload_names.specs.declared.inputs.Effects.{Effects}
@@ -28,11 +28,12 @@ use Rattle.move_laws.proofs.Laws.{all_fit}
 use Rattle.stands_laws.specs.Books.{Book}
 use Rattle.stands_laws.specs.ClientStands.{kinds_of, serves}
 use Rattle.stands_laws.specs.ConnectionSides.{conn_move_of, conn_side}
-use Rattle.stands_laws.specs.Follows.{BindEndsLaw, BindFollowsLaw, ConnComes, connection_end}
+use Rattle.stands_laws.specs.Follows.{ConnComes, connection_end}
 use Rattle.stands_laws.specs.Letters.{OrderIs}
 use Rattle.stands_laws.specs.Lists.{FirstIs}
 use Rattle.stands_laws.specs.RegularStands.{LinkStands}
 use Rattle.stands_laws.specs.WorldStands.{connection_ledger_in, stands_by}
+use Rattle.bind_moves_laws.proofs.BindFollowing.{bind_ends, bind_follows}
 use Rattle.regular_moves_laws.proofs.Follows.{regular_ends, regular_follows}
 use Rattle.fitness_laws.proofs.ConnectionStrangers.{bind_writes_none, connection_ends_none, regular_writes_none}
 use Rattle.fitness_laws.proofs.ConnectionTurned.{connection_turned}
@@ -80,12 +81,12 @@ module _ (s : Settings) (b : Book) (w w1 : World) (h : Standing s b w) (states :
   stands_so : (t : Bool) → serves s u ≡ t → stands_by t s b u (connection_ledger_in s w u) (h.model.conns u)
   stands_so t e = subst (λ k. stands_by k s b u (connection_ledger_in s w u) (h.model.conns u)) e (h.stands.conns u)
 
-  module _ (bind : BindFollowsLaw) (i : Input) (comes : ConnComes s b (conn_side h.model u) i) where
+  module _ (i : Input) (comes : ConnComes s b (conn_side h.model u) i) where
     by_kind : (o : Option Place) → place_at s u ≡ o → (t : Bool) → serves s u ≡ t → Turned w w1 (Connection u) i (letter_of i) (given i o (if t then BindKind else Regular)) → Standing s b w1
     by_kind None e k serve t = record { model = h.model; stands = idle s b w w1 h.model (Connection u) (Connection (connection_ledger_in s w u).state.number) (moment_for (connection_ledger_in s w u).state.moment i) i (letter_of i) (none_comes i e comes) t h.stands; holds = h.holds }
     by_kind (Some place) e true serve t =
         let l : ConnectionLedger = connection_ledger_in s w u in
-        let f = bind s b h.model u l i h.holds serve (ap is_some e) (stands_so true serve) comes in
+        let f = bind_follows s b h.model u l i h.holds serve (ap is_some e) (stands_so true serve) comes in
         record {
           model = moves (kinds_of s b) h.model (map (conn_move_of u) f.made);
           stands = connection_turned s b w w1 h.model h.stands i u (moment_for l.state.moment i) (letter_of i) (bind_act s l.state (moment_for l.state.moment i) i) f.made true serve f.acts.stands f.acts.gives f.orders t (λ n. bind_writes_none n s l.state (moment_for l.state.moment i) i);
@@ -100,16 +101,16 @@ module _ (s : Settings) (b : Book) (w w1 : World) (h : Standing s b w) (states :
           holds = holds_moves (kinds_of s b) h.model (map (conn_move_of u) f.made) h.holds;
         }
 
-  pub connection_takes : BindFollowsLaw → (i : Input) → Comes w (Connection u) i → Turned w w1 (Connection u) i (letter_of i) (turn_of s w (Connection u) i) → Standing s b w1
-  connection_takes bind i comes t =
-      by_kind bind i (connection_comes i comes) (place_at s u) refl (serves s u) refl
+  pub connection_takes : (i : Input) → Comes w (Connection u) i → Turned w w1 (Connection u) i (letter_of i) (turn_of s w (Connection u) i) → Standing s b w1
+  connection_takes i comes t =
+      by_kind i (connection_comes i comes) (place_at s u) refl (serves s u) refl
       (subst (λ e. Turned w w1 (Connection u) i (letter_of i) e) (ap (λ p. connection_turn s p i) (connection_here s w u states) ∙ (λ j. given i (place_at s (link.number j)) ((link.kind ∙ kind_known (kind_at s u) (serves s u) refl) j))) t)
 
-  module _ (bind : BindEndsLaw) (now : ℕ) (why : EndWhy) (t : Turned w w1 (Connection u) (Tick now) None (effects_of (Connection (connection_ledger_in s w u).state.number) (max (connection_ledger_in s w u).state.moment now) (connection_end (connection_ledger_in s w u).state why))) where
+  module _ (now : ℕ) (why : EndWhy) (t : Turned w w1 (Connection u) (Tick now) None (effects_of (Connection (connection_ledger_in s w u).state.number) (max (connection_ledger_in s w u).state.moment now) (connection_end (connection_ledger_in s w u).state why))) where
     ended_by_kind : (k : Bool) → serves s u ≡ k → Standing s b w1
     ended_by_kind true serve =
         let l : ConnectionLedger = connection_ledger_in s w u in
-        let f = bind s b u now why l (conn_side h.model u) (stands_so true serve) in
+        let f = bind_ends s b u now why l (conn_side h.model u) (stands_so true serve) in
         record {
           model = moves (kinds_of s b) h.model (map (conn_move_of u) f.made);
           stands = connection_turned s b w w1 h.model h.stands (Tick now) u (max l.state.moment now) None (connection_end l.state why) f.made true serve f.acts.stands f.acts.gives f.orders t (λ n. connection_ends_none n l.state why);
@@ -124,6 +125,6 @@ module _ (s : Settings) (b : Book) (w w1 : World) (h : Standing s b w) (states :
           holds = holds_moves (kinds_of s b) h.model (map (conn_move_of u) f.made) h.holds;
         }
 
-  pub connection_severed : BindEndsLaw → (now : ℕ) (why : EndWhy) → Turned w w1 (Connection u) (Tick now) None (sever_of s w (Connection u) now why) → Standing s b w1
-  connection_severed bind now why t =
-      ended_by_kind bind now why (subst (λ e. Turned w w1 (Connection u) (Tick now) None e) (ap (λ p. connection_sever p now why) (connection_here s w u states)) t) (serves s u) refl
+  pub connection_severed : (now : ℕ) (why : EndWhy) → Turned w w1 (Connection u) (Tick now) None (sever_of s w (Connection u) now why) → Standing s b w1
+  connection_severed now why t =
+      ended_by_kind now why (subst (λ e. Turned w w1 (Connection u) (Tick now) None e) (ap (λ p. connection_sever p now why) (connection_here s w u states)) t) (serves s u) refl

@@ -1,5 +1,5 @@
--- Each world that moves of the parts make has a world of the machine that stands for it, where the turns of bind
--- connections make what moves make; and each letter is fit where it is taken.
+-- Each world that moves of the parts make has a world of the machine that stands for it; and each letter is fit where it is
+-- taken.
 use Rattle.std.proofs.Common.{◌≡◌, ℕ, true, List, [], ◌∷◌, ◌++◌, refl, ap, ◌∙◌, sym, subst}
 use Rattle.std.specs.Prelude.{Option, Some, None, cond, find}
 use Rattle.std.specs.List.{list_all}
@@ -27,10 +27,9 @@ use Rattle.move_laws.specs.Moves.{empty}
 use Rattle.move_laws.proofs.Laws.{holds_empty}
 use Rattle.stands_laws.specs.Books.{Book, Has, Keeps, book_of, made_at}
 use Rattle.stands_laws.specs.ClientStands.{kinds_of}
-use Rattle.stands_laws.specs.Follows.{BindEndsLaw, BindFollowsLaw}
 use Rattle.stands_laws.proofs.Beginning.{beginning}
 use Rattle.stands_laws.proofs.Tests.{same_self}
-use Rattle.fitness_laws.specs.Fitness.{BindConnectionsMakeMoves, FitnessLaw, HaveRules, MarksLaw}
+use Rattle.fitness_laws.specs.Fitness.{FitnessLaw, HaveRules, MarksLaw}
 use Rattle.fitness_laws.proofs.Books.{books}
 use Rattle.fitness_laws.proofs.FirstLetters.{first_letters}
 use Rattle.fitness_laws.proofs.Fits.{FitMark, fit_turned}
@@ -76,17 +75,17 @@ made_here s b w Desk now id rest h = tt
 made_here s b w (Client c) now id rest h = h
 made_here s b w (Connection u) now id rest h = tt
 
-module _ (bind : BindFollowsLaw) (bind_ends : BindEndsLaw) (s : Settings) (b : Book) where
+module _ (s : Settings) (b : Book) where
   -- A move.
   part_takes : (w w1 : World) (p : PartName) (i : Input) → Fitting s b w → Comes w p i → HasFrom s b w p i → Turned w w1 p i (letter_of i) (turn_of s w p i) → Standing s b w1
   part_takes w w1 Desk i h comes made t = desk_takes s b w w1 h.standing h.states i comes t
   part_takes w w1 (Client c) i h comes made t = client_takes s b w w1 h.standing h.states c i comes made t
-  part_takes w w1 (Connection u) i h comes made t = connection_takes s b w w1 h.standing h.states u bind i comes t
+  part_takes w w1 (Connection u) i h comes made t = connection_takes s b w w1 h.standing h.states u i comes t
 
   part_severed : (w w1 : World) (p : PartName) (now : ℕ) (why : EndWhy) → Fitting s b w → Turned w w1 p (input.Tick now) None (effects_in s w p (Severed now why)) → Standing s b w1
   part_severed w w1 Desk now why h t = desk_severed s b w w1 h.standing h.states now why t
   part_severed w w1 (Client c) now why h t = client_severed s b w w1 h.standing h.states c now why t
-  part_severed w w1 (Connection u) now why h t = connection_severed s b w w1 h.standing h.states u bind_ends now why t
+  part_severed w w1 (Connection u) now why h t = connection_severed s b w w1 h.standing h.states u now why t
 
   -- the letter that an input takes is fit
   fit_comes : (w : World) (p : PartName) (i : Input) → Fitting s b w → Comes w p i → FitMark s p (list_in w p) (letter_of i)
@@ -193,14 +192,13 @@ module _ (bind : BindFollowsLaw) (bind_ends : BindEndsLaw) (s : Settings) (b : B
       empty_fit (Client c) = refl
       empty_fit (Connection u) = refl
 
-module _ (h : BindConnectionsMakeMoves) where
-  pub fitness : FitnessLaw
-  fitness s ms =
-      let b : Book = book_of s empty_world ms in
-      let f : Fitting s b (behind_moves s empty_world ms) = all_moves h.follows h.ends s b empty_world ms (books s empty_world ms) (nothing_yet h.follows h.ends s b) in
-      record { taken = f.fit; waiting = have_rules_in s b (behind_moves s empty_world ms) f }
+pub fitness : FitnessLaw
+fitness s ms =
+    let b : Book = book_of s empty_world ms in
+    let f : Fitting s b (behind_moves s empty_world ms) = all_moves s b empty_world ms (books s empty_world ms) (nothing_yet s b) in
+    record { taken = f.fit; waiting = have_rules_in s b (behind_moves s empty_world ms) f }
 
-  pub marks : MarksLaw
-  marks s ms =
-      let b : Book = book_of s empty_world ms in
-      all_marks h.follows h.ends s b empty_world ms (books s empty_world ms) (nothing_yet h.follows h.ends s b)
+pub marks : MarksLaw
+marks s ms =
+    let b : Book = book_of s empty_world ms in
+    all_marks s b empty_world ms (books s empty_world ms) (nothing_yet s b)

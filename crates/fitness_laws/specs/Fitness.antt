@@ -14,7 +14,6 @@ use Rattle.move_laws.specs.World as machine
 use Rattle.move_laws.specs.AgreeBinds.{Holds}
 use Rattle.stands_laws.specs.Books.{Book}
 use Rattle.stands_laws.specs.ClientStands.{kinds_of}
-use Rattle.stands_laws.specs.Follows.{BindEndsLaw, BindFollowsLaw}
 use Rattle.stands_laws.specs.WorldStands.{WorldStands}
 
 -- the letter that waits first between two parts is fit where it will be taken
@@ -54,8 +53,3 @@ FitnessLaw = (s : Settings) (ms : List PartMove) → IsFitWorld s (world_of s ms
 -- so each letter that moves take has a mark
 abbrev pub MarksLaw : Type 0
 MarksLaw = (s : Settings) (ms : List PartMove) → IsTrue (marks_moves s empty_world ms)
-
--- The turns of bind connections, and the ends of their links, make what moves of the machine make.
-pub record BindConnectionsMakeMoves : Type 0 where
-  pub follows : BindFollowsLaw
-  pub ends : BindEndsLaw

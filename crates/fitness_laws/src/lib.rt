@@ -1,11 +1,12 @@
 //! Fitness: each letter is fit where it is taken.
 //!
-//! A world of the machine stands for a world of the parts, and the machine's law says that the letters which wait first are
-//! fit there; so they are fit for the parts.
+//! A world of the machine stands for each world that the parts make: each turn is a list of moves. The machine's law says that
+//! the letters which wait first are fit there; so they are fit for the parts, and each letter that is taken leaves a mark. From
+//! this it follows, without any further induction, that the lists of the parts are linked.
 #![tactic(auto)]
 
 ghost use Rattle.stands_laws.specs.Laws.{BookLaw};
-ghost use Rattle.fitness_laws.specs.Fitness.{BindConnectionsMakeMoves, FirstFitLaw, FitnessLaw, MarksLaw, RulesLaw};
+ghost use Rattle.fitness_laws.specs.Fitness.{FirstFitLaw, FitnessLaw, MarksLaw, RulesLaw};
 ghost use Rattle.fitness_laws.specs.Linked.{AllTakenAtRest, AlwaysGives, AlwaysLater, AlwaysLinked, AlwaysLinks, AlwaysShares};
 
 /// Each run has a book from the beginning: the request of each of its operations, with its action, and whether it goes on in
@@ -25,24 +26,24 @@ pub fn waiting_letters_have_rules()
     ensures { RulesLaw }
 {}
 
-/// Where the turns of bind connections make what moves of the machine make, each letter of each part's list was fit where it
-/// was taken, each that waits has a rule, and each that was taken left a mark, whatever moves the parts make.
-pub fn letters_are_fit_where_bind_connections_make_moves()
-    ensures fitness { BindConnectionsMakeMoves → FitnessLaw }
-    ensures marks { BindConnectionsMakeMoves → MarksLaw }
+/// Whatever moves the parts make, each letter of each part's list was fit where it was taken, each letter that waits has a
+/// rule in its receiver's state, and each that was taken left a mark.
+pub fn letters_are_fit()
+    ensures fitness { FitnessLaw }
+    ensures marks { MarksLaw }
 {}
 
-/// So there what each part gave another is what this one took, in order, and then what waits, and each mark has a greater
+/// So what each part gave another is what this one took, in order, and then what waits, and each mark has a greater
 /// stamp than its letter. Where links end for reasons that a link has, the lists of the parts are linked, what each part gave
 /// is what its list gives, where nothing waits all of it was taken, and the lists of the desk and of connections keep their
 /// shares of the promises, whole.
-pub fn parts_are_linked_where_bind_connections_make_moves()
-    ensures links { BindConnectionsMakeMoves → AlwaysLinks }
-    ensures later { BindConnectionsMakeMoves → AlwaysLater }
-    ensures linked { BindConnectionsMakeMoves → AlwaysLinked }
-    ensures gives { BindConnectionsMakeMoves → AlwaysGives }
-    ensures at_rest { BindConnectionsMakeMoves → AllTakenAtRest }
-    ensures shares { BindConnectionsMakeMoves → AlwaysShares }
+pub fn parts_are_linked()
+    ensures links { AlwaysLinks }
+    ensures later { AlwaysLater }
+    ensures linked { AlwaysLinked }
+    ensures gives { AlwaysGives }
+    ensures at_rest { AllTakenAtRest }
+    ensures shares { AlwaysShares }
 {
     part_spec::a_fit_list_begins_with_all_of_it();
     link_laws::links_hold();

@@ -16,8 +16,7 @@ pub fn parts_keep_their_shares_in_runs()
     link_laws::the_desk_is_linked();
     link_laws::clients_are_linked();
     link_laws::connections_are_linked();
-    bind_moves_laws::turns_of_bind_connections_are_moves();
-    fitness_laws::letters_are_fit_where_bind_connections_make_moves();
+    fitness_laws::letters_are_fit();
 }
 
 /// So the journal of every run keeps what the promises say of one list alone.

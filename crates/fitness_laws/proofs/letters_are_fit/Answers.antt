@@ -1,5 +1,5 @@
 use Rattle.fitness_laws.proofs.WorldMoves.{fitness, marks}
-use Rattle.fitness_laws.proofs.letters_are_fit_where_bind_connections_make_moves.Goals as goal
+use Rattle.fitness_laws.proofs.letters_are_fit.Goals as goal
 
 pub returns-clause-fitness : goal.returns-clause-fitness
 returns-clause-fitness c = fitness
