@@ -1,5 +1,5 @@
--- Each world that moves of the parts make has a world of the machine that stands for it; and each letter is fit where it is
--- taken.
+-- Each world that moves of the parts make has a world of the machine that stands for it; and each letter is fit where it
+-- is taken.
 use Rattle.std.proofs.Common.{◌≡◌, ℕ, true, List, [], ◌∷◌, ◌++◌, refl, ap, ◌∙◌, sym, subst}
 use Rattle.std.specs.Prelude.{Option, Some, None, cond, find}
 use Rattle.std.specs.List.{list_all}
