@@ -29,7 +29,7 @@ use Rattle.lload_spec.proofs.Growth.{left, right, both}
 use Rattle.part_laws.proofs.ListLaws.{not_true}
 use Rattle.connection_laws.proofs.Pieces.{marked_up}
 use Rattle.connection_laws.proofs.Through.{no_rows}
-use Rattle.bind_moves_laws.proofs.ConnGives.{Gives, gives_more}
+use Rattle.stands_laws.proofs.ConnGives.{Gives, gives_more}
 use Rattle.bind_moves_laws.proofs.Gives.{gives_down, gives_finish, gives_retired, gives_up, held_letters}
 use Rattle.bind_moves_laws.proofs.Rules.{Rule, rule_also}
 use Rattle.bind_moves_laws.proofs.Steps.{linked_by, stands_down, stands_linked, stands_retired}

@@ -15,7 +15,7 @@ use Rattle.stands_laws.specs.Lists.{Pairs}
 use Rattle.stands_laws.specs.Letters.{AnswerIs, ReportIs}
 use Rattle.stands_laws.specs.ConnectionSides.{ConnSide, Taking, Replying, Finishing, Rising, Retiring, Breaking, conn_move}
 use Rattle.part_laws.proofs.ListLaws.{same_number}
-use Rattle.bind_moves_laws.proofs.ConnGives.{Gives, gives_at, gives_told, its_client, one_client}
+use Rattle.stands_laws.proofs.ConnGives.{Gives, gives_at, gives_told, its_client, one_client}
 
 -- the end of a holder, as the desk hears it
 abbrev pub held_letters : ℕ → Option Op → List Posted

@@ -1,9 +1,7 @@
-pub mod ConnGives
 pub mod Gives
 pub mod Rules
 pub mod Steps
 pub mod Ends
-pub mod TakenLetters
 pub mod Orders
 pub mod RowAnswers
 pub mod Messages

@@ -38,7 +38,7 @@ use Rattle.lload_spec.proofs.Growth.{left, right}
 use Rattle.part_laws.proofs.ListLaws.{false_by, same_number}
 use Rattle.connection_laws.proofs.Pieces.{implies_true, marked_up}
 use Rattle.bind_laws.proofs.Meets.{code_apart, code_there}
-use Rattle.bind_moves_laws.proofs.ConnGives.{gives_none}
+use Rattle.stands_laws.proofs.ConnGives.{gives_none}
 use Rattle.bind_moves_laws.proofs.Gives.{freed_letters, gives_finish, gives_reply, last_answer}
 use Rattle.bind_moves_laws.proofs.Rules.{Rule, rule_then}
 use Rattle.bind_moves_laws.proofs.Steps.{got_is, next_stays, no_own_bind, stands_got, stands_with}

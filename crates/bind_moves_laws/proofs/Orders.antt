@@ -35,9 +35,9 @@ use Rattle.lload_spec.proofs.Growth.{both}
 use Rattle.part_laws.proofs.ListLaws.{eq_eqb, same_number}
 use Rattle.connection_laws.proofs.Pieces.{marked_up}
 use Rattle.bind_laws.proofs.Rules.{forward_act, leave_act}
-use Rattle.bind_moves_laws.proofs.ConnGives.{Gives, gives_more, its_client, one_client}
+use Rattle.stands_laws.proofs.ConnGives.{Gives, gives_more, its_client, one_client}
 use Rattle.bind_moves_laws.proofs.Gives.{gives_silent, gives_taking}
-use Rattle.bind_moves_laws.proofs.TakenLetters.{taken_any, taken_push}
+use Rattle.stands_laws.proofs.TakenLetters.{taken_any, taken_push}
 use Rattle.bind_moves_laws.proofs.Rules.{Rule}
 use Rattle.bind_moves_laws.proofs.Steps.{above_filter, above_id, stands_with}
 use Rattle.bind_moves_laws.proofs.Ends.{rule_down, rule_giving}

@@ -20,7 +20,7 @@ use Rattle.stands_laws.specs.BindStands.{BindStands}
 use Rattle.connection_laws.proofs.Makes.{turn_of, tail_none}
 use Rattle.connection_laws.proofs.Permits.{state_through}
 use Rattle.connection_laws.proofs.Through.{number_through, steps_are, turn_more}
-use Rattle.bind_moves_laws.proofs.ConnGives.{Gives, gives_more, gives_none, moves_more}
+use Rattle.stands_laws.proofs.ConnGives.{Gives, gives_more, gives_none, moves_more}
 
 -- some moves make what a rule makes, and leave these orders
 pub record Rule (s : Settings) (b : Book) (u at : ℕ) (mark : Option Taken) (l : ConnectionLedger) (a : Act) (y : ConnSide) (orders : ℕ → List ToConn) : Type 0 where

@@ -24,7 +24,7 @@ use Rattle.stands_laws.specs.ConnectionSides.{ConnSide, Finishing, conn_move}
 use Rattle.stands_laws.specs.BindStands.{BindRow, BindRows, BindStands}
 use Rattle.part_laws.proofs.ListLaws.{same_op_refl}
 use Rattle.connection_laws.proofs.Pieces.{marked_up}
-use Rattle.bind_moves_laws.proofs.ConnGives.{Gives, gives_none}
+use Rattle.stands_laws.proofs.ConnGives.{Gives, gives_none}
 use Rattle.bind_moves_laws.proofs.Gives.{gives_finish}
 use Rattle.bind_moves_laws.proofs.Rules.{Rule, rule_also, rule_then, rule_nothing}
 use Rattle.bind_moves_laws.proofs.Steps.{stands_got, stands_with}

@@ -22,10 +22,11 @@ use Rattle.part_laws.proofs.ListLaws.{same_number}
 use Rattle.connection_laws.proofs.Makes.{tail_none}
 use Rattle.connection_laws.proofs.Pieces.{marked_up}
 use Rattle.regular_moves_laws.proofs.Rows.{each_imply}
-use Rattle.regular_moves_laws.proofs.Gives.{gives_none, gives_up}
+use Rattle.regular_moves_laws.proofs.Gives.{gives_up}
 use Rattle.regular_moves_laws.proofs.Steps.{stands_up}
 use Rattle.regular_moves_laws.proofs.Orders.{giving_rule}
 use Rattle.regular_moves_laws.proofs.Turns.{Rule}
+use Rattle.stands_laws.proofs.ConnGives.{gives_none}
 
 module _ (s : Settings) (b : Book) (u at : ℕ) (l : ConnectionLedger) (y : ConnSide) (h : RegularStands s b u l y.row) (unlinked : l.state.linked ≡ false) (placed : is_some (place_at s u) ≡ true) where
   -- nothing happened yet

@@ -26,11 +26,11 @@ use Rattle.connection_laws.proofs.Makes.{turn_of}
 use Rattle.connection_laws.proofs.Permits.{state_through}
 use Rattle.connection_laws.proofs.Pieces.{marked_up}
 use Rattle.connection_laws.proofs.Through.{no_rows, steps_are, turn_more}
-use Rattle.regular_moves_laws.proofs.Gives.{Gives, gives_more, gives_down}
-use Rattle.regular_moves_laws.proofs.Ends.{moves_more}
+use Rattle.regular_moves_laws.proofs.Gives.{gives_down}
 use Rattle.regular_moves_laws.proofs.Steps.{stands_down}
 use Rattle.regular_moves_laws.proofs.Ticks.{behind_more}
 use Rattle.regular_moves_laws.proofs.Turns.{Rule}
+use Rattle.stands_laws.proofs.ConnGives.{Gives, gives_more, moves_more}
 
 -- some moves make what a turn makes
 pub record Turned (s : Settings) (b : Book) (u at : ℕ) (mark : Option Taken) (l : ConnectionLedger) (a : Act) (y : ConnSide) (orders : ℕ → List ToConn) : Type 0 where

@@ -26,12 +26,9 @@ use Rattle.part_laws.proofs.ListLaws.{not_true, same_op_sym, same_op_refl, or_le
 use Rattle.connection_laws.proofs.Pieces.{marked_up}
 use Rattle.connection_laws.proofs.Apart.{is_apart, are_apart}
 use Rattle.regular_moves_laws.proofs.Rows.{RowsStand, rows_stand}
-use Rattle.regular_moves_laws.proofs.Gives.{Gives, gives_none, gives_more, gives_finish, gives_down}
+use Rattle.regular_moves_laws.proofs.Gives.{gives_finish, gives_down}
 use Rattle.regular_moves_laws.proofs.Steps.{stands_down}
-
-pub moves_more : (bind : Bool) (y : ConnSide) (ms ns : List ConnMove) → conn_moves bind y (ms ++ ns) ≡ conn_moves bind (conn_moves bind y ms) ns
-moves_more bind y [] ns = refl
-moves_more bind y (m ∷ ms) ns = moves_more bind (conn_move bind y m) ms ns
+use Rattle.stands_laws.proofs.ConnGives.{Gives, gives_more, gives_none, moves_more}
 
 abbrev pub finishings : List UpRow → List ConnMove
 finishings [] = []

@@ -33,11 +33,12 @@ use Rattle.lload_spec.proofs.Growth.{left, both}
 use Rattle.lload_laws.proofs.ListLaws.{find-map, found_passes}
 use Rattle.part_laws.proofs.ListLaws.{same_number, false_by}
 use Rattle.regular_moves_laws.proofs.Rows.{RowsStand, rows_stand, alike, Alike, each_imply, each_both, each_found}
-use Rattle.regular_moves_laws.proofs.Gives.{gives_none, gives_reply, gives_finish, gives_up}
+use Rattle.regular_moves_laws.proofs.Gives.{gives_reply, gives_finish, gives_up}
 use Rattle.regular_moves_laws.proofs.Steps.{stands_up}
 use Rattle.regular_moves_laws.proofs.Ends.{AreLive, all_live, finish_is, down_moves, down_gives, down_stands, down_waits}
 use Rattle.regular_moves_laws.proofs.Messages.{under_row, EndsNone, rows_none, rows_final, got_by, got_link, stands_got, stands_got_own}
 use Rattle.regular_moves_laws.proofs.Turns.{Rule, passes_some, none_found, not_retired}
+use Rattle.stands_laws.proofs.ConnGives.{gives_none}
 
 -- A message that isn't bad answers the open operation that it is under.
 own_same : (id : ℕ) (o : Option OwnWait) → passes (λ n. n == id) (elim o [ None ↦ None | Some own ↦ Some own.id ]) ≡ passes (λ own. own.id == id) o

@@ -35,12 +35,13 @@ use Rattle.lload_laws.proofs.ListLaws.{found_passes}
 use Rattle.part_laws.proofs.ListLaws.{same_number, same_op_eq}
 use Rattle.connection_laws.proofs.Pieces.{marked_up}
 use Rattle.regular_moves_laws.proofs.Rows.{RowsStand, rows_stand, rows_without, alike, Alike, each_imply, each_found}
-use Rattle.regular_moves_laws.proofs.Gives.{Gives, gives_none, gives_more, gives_retired, gives_missed, gives_told_taking, gives_silent}
+use Rattle.regular_moves_laws.proofs.Gives.{gives_retired, gives_missed, gives_told_taking, gives_silent}
 use Rattle.regular_moves_laws.proofs.Taken.{forward_taken, taken_forward, drop_taken, taken_drop, signal_taken, taken_signal}
 use Rattle.regular_moves_laws.proofs.Steps.{is_linked, stands_retired, stands_missed, stands_idle, signal_what, stands_signal}
-use Rattle.regular_moves_laws.proofs.Ends.{AreLive, all_live, moves_more}
+use Rattle.regular_moves_laws.proofs.Ends.{AreLive, all_live}
 use Rattle.regular_moves_laws.proofs.Sends.{stands_sent, stands_abandon}
 use Rattle.regular_moves_laws.proofs.Turns.{Rule, none_found}
+use Rattle.stands_laws.proofs.ConnGives.{Gives, gives_more, gives_none, moves_more}
 
 -- An entry gives an identifier, and the connection retires where this is the limit.
 pub record GivesId (s : Settings) (b : Book) (u at id : ℕ) (e : What) (mark : Option Taken) (l : ConnectionLedger) (xs : List Posted) (y : ConnSide) (orders : ℕ → List ToConn) (ms : List ConnMove) : Type 0 where

@@ -30,11 +30,12 @@ use Rattle.connection_laws.proofs.Pieces.{marked_up}
 use Rattle.connection_laws.proofs.Makes.{tail_none}
 use Rattle.connection_laws.proofs.RegularTicks.{NamedDue, all_due_named, named_left, other_ids, unmarked, unmarked_more}
 use Rattle.regular_moves_laws.proofs.Rows.{RowsStand, rows_stand, regular_rows, rows_without, each_found, each_filter, filter_all}
-use Rattle.regular_moves_laws.proofs.Gives.{Gives, gives_none, gives_more, gives_finish}
-use Rattle.regular_moves_laws.proofs.Ends.{AreLive, all_live, finish_is, moves_more, down_moves, down_gives, down_stands, down_waits}
+use Rattle.regular_moves_laws.proofs.Gives.{gives_finish}
+use Rattle.regular_moves_laws.proofs.Ends.{AreLive, all_live, finish_is, down_moves, down_gives, down_stands, down_waits}
 use Rattle.regular_moves_laws.proofs.Sends.{own_rows, stands_abandon}
 use Rattle.regular_moves_laws.proofs.Orders.{GivesId, giving_rule}
 use Rattle.regular_moves_laws.proofs.Turns.{Rule, passes_some}
+use Rattle.stands_laws.proofs.ConnGives.{Gives, gives_more, gives_none, moves_more}
 
 pub behind_more : {A : Type 0} (step : A → Marked → A) (l : A) (ms ns : List Marked) → behind step l (ms ++ ns) ≡ behind step (behind step l ms) ns
 behind_more step l [] ns = refl

@@ -14,7 +14,7 @@ use Rattle.stands_laws.specs.Lists.{Each}
 use Rattle.stands_laws.specs.ConnectionSides.{ConnSide, ConnMove, conn_moves}
 use Rattle.stands_laws.specs.Follows.{connection_ledger_behind}
 use Rattle.stands_laws.specs.RegularStands.{RegularStands}
-use Rattle.regular_moves_laws.proofs.Gives.{Gives, gives_none}
+use Rattle.stands_laws.proofs.ConnGives.{Gives, gives_none}
 
 -- some moves make what a rule makes, and leave these orders
 pub record Rule (s : Settings) (b : Book) (u at : ℕ) (mark : Option Taken) (l : ConnectionLedger) (a : Act) (y : ConnSide) (orders : ℕ → List ToConn) : Type 0 where

@@ -5,3 +5,5 @@ pub mod ClientSides
 pub mod ConnectionSides
 pub mod DeskSides
 pub mod Beginning
+pub mod ConnGives
+pub mod TakenLetters

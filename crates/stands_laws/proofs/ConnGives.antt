@@ -25,7 +25,7 @@ moves_more bind y (m ∷ ms) ns = moves_more bind (conn_move bind y m) ms ns
 abbrev pub Gives : Settings → Book → ℕ → List Posted → ConnSide → ConnSide → Type 0
 Gives s b u xs y z = ConnGives s b u (act [] xs) y z
 
-no_more : {A B : Type 0} (R : A → B → Type 0) (q : List A) (z : List B) → Pairs R q z → Pairs R (q ++ []) z
+pub no_more : {A B : Type 0} (R : A → B → Type 0) (q : List A) (z : List B) → Pairs R q z → Pairs R (q ++ []) z
 no_more R q z p = subst (λ r. Pairs R r z) (sym (append-nil q)) p
 
 pub gives_none : (s : Settings) (b : Book) (u : ℕ) (y : ConnSide) → Gives s b u [] y y
