@@ -5,7 +5,7 @@ use Rattle.lload_names.specs.declared.names.PartName.{PartName}
 use Rattle.lload_spec.specs.Settings.{Settings}
 use Rattle.lload_spec.specs.Journal.{Family}
 use Rattle.lload_spec.specs.Fifo.{has_outs_and_sents_in_place}
-use Rattle.lload_spec.specs.Strict.{each_missed_once}
+use Rattle.lload_spec.specs.Strict.{each_client_lives, each_missed_once}
 use Rattle.part_spec.specs.Fit.{is_all_fit}
 use Rattle.part_spec.specs.Linked.{Linked}
 use Rattle.part_spec.specs.Marked.{Marked}
@@ -21,6 +21,7 @@ pub record Joined (s : Settings) (F : Family) (marked : PartName → List Marked
 -- what the promises say of several lists
 pub record OfSeveralLists (s : Settings) (F : Family) : Type 0 where
   pub in_place : IsTrue (has_outs_and_sents_in_place F)
+  pub clients_live : IsTrue (each_client_lives s F)
   pub missed_once : IsTrue (each_missed_once F)
 
 abbrev pub JoinedLaw : Type 0
