@@ -6,6 +6,7 @@ use Rattle.part_spec.specs.Merge.{PartMove, world_of}
 use Rattle.part_spec.specs.World.{journal_of, list_in}
 use Rattle.link_laws.specs.Moves.{end_rightly}
 use Rattle.promise_laws.specs.OneList.{Shared, OfOneList}
+use Rattle.joined_laws.specs.Joined.{Joined, OfSeveralLists}
 
 -- the family of the journal of a run
 abbrev pub family_of_run : Settings → List PartMove → Family
@@ -21,3 +22,14 @@ RunsAreShared =
 abbrev pub RunsKeepOneList : Type 0
 RunsKeepOneList =
     (s : Settings) (ms : List PartMove) → IsTrue (end_rightly ms) → OfOneList s (family_of_run s ms)
+
+-- its lists are joined, by shares, fit letters and links
+abbrev pub RunsAreJoined : Type 0
+RunsAreJoined =
+    (s : Settings) (ms : List PartMove) → IsTrue (end_rightly ms)
+    → Joined s (family_of_run s ms) (list_in (world_of s ms))
+
+-- and the journal keeps what the promises say of several lists
+abbrev pub RunsKeepSeveralLists : Type 0
+RunsKeepSeveralLists =
+    (s : Settings) (ms : List PartMove) → IsTrue (end_rightly ms) → OfSeveralLists s (family_of_run s ms)

@@ -5,7 +5,7 @@
 //! fitness.
 #![tactic(auto)]
 
-ghost use Rattle.run_laws.specs.Runs.{RunsAreShared, RunsKeepOneList};
+ghost use Rattle.run_laws.specs.Runs.{RunsAreShared, RunsAreJoined, RunsKeepOneList, RunsKeepSeveralLists};
 
 /// In every run each part's list keeps the part's whole share of the promises: each letter was fit where it was taken.
 pub fn parts_keep_their_shares_in_runs()
@@ -25,4 +25,23 @@ pub fn promises_of_one_list_hold_of_runs()
 {
     parts_keep_their_shares_in_runs();
     promise_laws::shares_give_what_is_said_of_one_list();
+}
+
+/// In every run the lists of the parts are joined: each keeps its part's share, its letters were fit, and what it took of
+/// another is a beginning of what this one gave.
+pub fn parts_are_joined_in_runs()
+    ensures { RunsAreJoined }
+{
+    parts_keep_their_shares_in_runs();
+    fitness_laws::letters_are_fit();
+    fitness_laws::parts_are_linked();
+}
+
+/// So the journal of every run keeps what the promises say of several lists, as far as that is drawn from shares and links
+/// (`OfSeveralLists`).
+pub fn promises_of_several_lists_hold_of_runs()
+    ensures { RunsKeepSeveralLists }
+{
+    parts_are_joined_in_runs();
+    joined_laws::shares_and_links_give_what_is_said_of_several_lists();
 }
