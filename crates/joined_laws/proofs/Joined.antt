@@ -18,7 +18,9 @@ use Rattle.lload_laws.proofs.ListLaws.{all_always}
 use Rattle.part_spec.specs.ClientState.{empty_client}
 use Rattle.part_spec.specs.Fit.{empty_client_ledger}
 use Rattle.part_spec.specs.Marked.{Marked, entries}
-use Rattle.part_spec.specs.Share.{ClientShare, ConnectionShare}
+use Rattle.part_spec.specs.Share.{ClientShare, ConnectionShare, DeskShare}
+use Rattle.part_spec.specs.Marks.{has_desk_mark}
+use Rattle.joined_laws.proofs.Heard.{states_told}
 use Rattle.promise_laws.specs.OneList.{OneListLaw}
 use Rattle.joined_laws.specs.Joined.{Joined, JoinedLaw}
 use Rattle.joined_laws.proofs.Choices.{choices_marked, choices_given, split_right}
@@ -34,6 +36,12 @@ module _ (s : Settings) (F : Family) (marked : PartName → List Marked) (h : Jo
 
   client : (c : ℕ) → ClientShare s c (marked (Client c))
   client c = h.shared.shares (Client c)
+
+  desk_marks : list_all has_desk_mark (marked Desk) ≡ true
+  desk_marks = desk.marks
+    where
+      desk : DeskShare s (marked Desk)
+      desk = h.shared.shares Desk
 
   begun_so : (c : ℕ) → Begun s c [] (empty_client c) (marked (Client c))
   begun_so c = begun s c (marked (Client c)) (client c)
@@ -79,4 +87,5 @@ joined one_list s F marked h =
       in_place = in_place_so F (one_list s F marked h.shared).entries_placed;
       clients_live = all_always (λ c. each_split (has_place_in_client s c) (F.client c) && list_all (is_chosen_by_desk F) (F.client c)) F.clients (lives_so s F marked h);
       missed_once = all_always (λ u. each_entry is_missed_once (F.connection u)) F.connections (missed_so s F marked h);
+      states_told = states_told s F marked h.linked (desk_marks s F marked h) (h.fit Desk);
     }

@@ -2,5 +2,7 @@ pub mod Taken
 pub mod Begun
 pub mod Walks
 pub mod Choices
+pub mod States
+mod Heard
 mod Missed
 mod Joined
