@@ -1,8 +1,9 @@
 -- Wrong turns of clients: before each stands the rule, and behind the colon what is done in its place.
-use Rattle.std.specs.Prelude.{ℕ, true, false, ◌==◌, not, List, [], ◌∷◌, filter, find, length, unwrap_or, Option, Some, None}
+use Rattle.std.specs.Prelude.{ℕ, true, false, ◌==◌, not, List, [], ◌∷◌, ◌++◌, filter, find, length, unwrap_or, Option, Some, None}
 use Rattle.std.specs.List.{list_any}
 use Rattle.ldap_spec.specs.Bodies.{refusal}
 use Rattle.ldap_spec.specs.Kinds.{kind_of}
+use Rattle.ldap_spec.specs.Messages.{Message}
 use Rattle.ldap_spec.specs.Requests.{is_cancel}
 use Rattle.lload_names.specs.declared.inputs.Effects.{Effects}
 use Rattle.lload_names.specs.declared.inputs.Input.{Input}
@@ -18,7 +19,8 @@ use Rattle.lload_names.specs.declared.names.Refusal.{Refusal}
 use Rattle.lload_names.specs.declared.names.What.{What}
 use Rattle.lload_names.specs.declared.names.What.TheVariants.{Late, Out}
 use Rattle.lload_spec.specs.Answers.{sendings, wants_identity}
-use Rattle.lload_spec.specs.Entries.{is_gone}
+use Rattle.lload_spec.specs.Entries.{is_gone, is_notice}
+use Rattle.lload_spec.specs.FirstCheck.{Check, Refuses}
 use Rattle.lload_spec.specs.Fifo.{is_out_entry}
 use Rattle.lload_spec.specs.Identity.{carried_for}
 use Rattle.lload_spec.specs.Journal.{same_op}
@@ -26,7 +28,7 @@ use Rattle.lload_spec.specs.Lists.{last}
 use Rattle.lload_spec.specs.Operations.{Operation, operation_in}
 use Rattle.lload_spec.specs.Settings.{Settings}
 use Rattle.part_spec.specs.ClientState.{ClientState, check_at, empty_client, is_present, is_written, step_client}
-use Rattle.part_spec.specs.ClientTurn.{by_check, client_turn, stalls}
+use Rattle.part_spec.specs.ClientTurn.{asks, by_check, client_turn, stalls}
 use Rattle.part_spec.specs.Inputs.{effects_of, moment_for, to, where_so}
 use Rattle.part_spec.specs.Marked.{Marked, entries}
 use Rattle.part_spec.specs.World.{World, client_in, list_in, turn_of}
@@ -200,3 +202,29 @@ silent_if_busy input e = e
 
 abbrev pub busy_untold : Turning
 busy_untold = with_clients (λ s w c input. silent_if_busy input (turn_of s w (Client c) input))
+
+-- The desk isn't asked for a request that is refused: it is.
+abbrev pub asks_if_refused : Settings → ClientState → ℕ → Message → Check → List Posted
+asks_if_refused s p at m (Refuses which) = asks s p at m
+asks_if_refused s p at m found = []
+
+abbrev pub asks_anyway : Settings → ClientState → Input → Effects → Effects
+asks_anyway s p (MessageIn now id rest) e =
+    record e {
+      letters =
+          e.letters
+          ++ asks_if_refused s p (moment_for p.moment (MessageIn now id rest)) (record { id = id; rest = rest })
+          (check_at s p (record { id = id; rest = rest }));
+    }
+asks_anyway s p input e = e
+
+abbrev pub refused_and_asked : Turning
+refused_and_asked =
+    with_clients (λ s w c input. asks_anyway s (client_in w c) input (turn_of s w (Client c) input))
+
+-- A client that breaks the protocol is told so before its end: it isn't.
+abbrev pub unnoticed : Effects → Effects
+unnoticed e = record e { entries = filter (λ x. not (is_notice x)) e.entries }
+
+abbrev pub notice_forgotten : Turning
+notice_forgotten = with_clients (λ s w c input. unnoticed (turn_of s w (Client c) input))

@@ -5,8 +5,9 @@ use Rattle.std.specs.List.{list_any}
 use Rattle.ldap_spec.specs.Bodies.{abandon}
 use Rattle.lload_names.specs.declared.inputs.Effects.{Effects}
 use Rattle.lload_names.specs.declared.inputs.Input.{Input}
-use Rattle.lload_names.specs.declared.inputs.Input.TheVariants.{LinkUp, Tick}
-use Rattle.lload_names.specs.declared.names.EndWhy.TheVariants.{Drained}
+use Rattle.lload_names.specs.declared.inputs.Input.TheVariants.{LetterFrom, LinkUp, Tick}
+use Rattle.lload_names.specs.declared.names.EndWhy.{EndWhy}
+use Rattle.lload_names.specs.declared.names.EndWhy.TheVariants.{Drained, OwnBind}
 use Rattle.lload_names.specs.declared.names.Letter.{Letter}
 use Rattle.lload_names.specs.declared.names.Letter.TheVariants.{Ended, Reply}
 use Rattle.lload_names.specs.declared.names.PartName.TheVariants.{Up as Connection}
@@ -17,6 +18,7 @@ use Rattle.lload_names.specs.declared.names.What.TheVariants.{Idle, Own}
 use Rattle.lload_spec.specs.Answers.{sendings}
 use Rattle.lload_spec.specs.Entries.{is_down_by, is_retired, own_message}
 use Rattle.lload_spec.specs.Journal.{same_op}
+use Rattle.lload_spec.specs.Settings.{Settings}
 use Rattle.part_spec.specs.ConnectionState.{ConnectionState}
 use Rattle.part_spec.specs.ConnectionTurn.{comes_up}
 use Rattle.part_spec.specs.Inputs.{effects_of, failed, moment_for}
@@ -94,15 +96,28 @@ never_retired =
     (λ s w u input. without_letters is_told_retired (without_whats is_retired (turn_of s w (Connection u) input)))
 
 -- A retired connection with nothing to do goes down: it stays up.
-abbrev pub stays_if_drained : Effects → Effects
-stays_if_drained e =
-    elim (list_any (is_down_by Drained) e.entries) [
-      | true ↦ without_letters is_told_down (record e { entries = filter (λ x. not (is_down_by Drained x)) e.entries })
+abbrev pub stays_up : EndWhy → Effects → Effects
+stays_up why e =
+    elim (list_any (is_down_by why) e.entries) [
+      | true ↦ without_letters is_told_down (record e { entries = filter (λ x. not (is_down_by why x)) e.entries })
       | false ↦ e
     ]
 
 abbrev pub drained_stays_up : Turning
-drained_stays_up = with_connections (λ s w u input. stays_if_drained (turn_of s w (Connection u) input))
+drained_stays_up = with_connections (λ s w u input. stays_up Drained (turn_of s w (Connection u) input))
+
+-- A connection whose own Bind is refused goes down: it stays up.
+abbrev pub refused_stays_up : Turning
+refused_stays_up = with_connections (λ s w u input. stays_up OwnBind (turn_of s w (Connection u) input))
+
+-- A connection that is down misses what is forwarded to it: it sends that.
+abbrev pub sends_anyway : Settings → ConnectionState → Input → Effects
+sends_anyway s p (LetterFrom now word sender letter) =
+    connection_turn s (record p { down = false }) (LetterFrom now word sender letter)
+sends_anyway s p input = connection_turn s p input
+
+abbrev pub sent_behind_end : Turning
+sent_behind_end = with_connections (λ s w u input. sends_anyway s (connection_in s w u) input)
 
 -- An operation that expires is abandoned: it isn't.
 abbrev pub unabandoned : Input → Effects → Effects

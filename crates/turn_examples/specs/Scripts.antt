@@ -4,7 +4,7 @@ use Rattle.lload_names.specs.declared.inputs.Input.TheVariants.{Arrive, LinkUp, 
 use Rattle.lload_names.specs.declared.names.PartName.TheVariants.{Desk, Client, Up as Connection}
 use Rattle.lload_spec.specs.Settings.{numbered_plan}
 use Rattle.spec_examples.specs.Configurations.{reloading}
-use Rattle.spec_examples.specs.Octets.{abandon_of_5, abandon_of_7, bind_done, bind_refused, bind_x, cancel_of_7, delete_body, delete_done, modify_body, modify_done, sasl_first, sasl_in_progress, search_body, search_done, search_entry, unbind_body}
+use Rattle.spec_examples.specs.Octets.{abandon_of_5, abandon_of_7, bind_done, bind_refused, bind_x, cancel_of_7, delete_body, delete_done, modify_body, modify_done, restricted_delete, sasl_first, sasl_in_progress, search_body, search_done, search_entry, unbind_body, who_refused}
 use Rattle.turn_examples.specs.Runs.{Move, Comes, Takes, Loses, Settles}
 
 -- a connection is linked, and a client comes
@@ -35,6 +35,10 @@ beginning = linked 1 ++ arrives 1
 abbrev pub two_ready : List Move
 two_ready = linked 1 ++ (linked 2 ++ arrives 1)
 
+-- the own Bind of a connection is refused
+abbrev pub own_bind_refused : List Move
+own_bind_refused = linked 1 ++ upstream_sends 1 1 bind_refused
+
 -- a Delete, and its answer
 abbrev pub delete_sent : List Move
 delete_sent = beginning ++ client_sends 1 5 delete_body
@@ -62,6 +66,19 @@ abbrev pub choice_late : List Move
 choice_late =
     beginning
     ++ (from_client 1 5 delete_body ++ (Takes Desk (Client 1) ∷ (from_client 1 6 abandon_of_5 ++ Settles ∷ [])))
+
+-- a Delete whose connection is lost before it is sent; one that is restricted; one under identifier 0
+abbrev pub forward_late : List Move
+forward_late =
+    beginning
+    ++ (from_client 1 5 delete_body
+    ++ Takes Desk (Client 1) ∷ Takes (Client 1) Desk ∷ Loses (Connection 1) ∷ Settles ∷ [])
+
+abbrev pub delete_restricted : List Move
+delete_restricted = beginning ++ client_sends 1 5 restricted_delete
+
+abbrev pub zero_identifier : List Move
+zero_identifier = beginning ++ client_sends 1 0 delete_body
 
 -- a Search; it is abandoned; its answer comes behind its Abandon, or the loss of its connection does
 abbrev pub search_sent : List Move
@@ -124,6 +141,10 @@ bound_twice =
 -- a Bind by SASL that succeeds at once
 abbrev pub sasl_succeeds : List Move
 sasl_succeeds = two_ready ++ (client_sends 1 1 sasl_first ++ upstream_sends 2 1 bind_done)
+
+-- its identity isn't told
+abbrev pub identity_untold : List Move
+identity_untold = sasl_succeeds ++ upstream_sends 2 2 who_refused
 
 -- a SASL exchange that goes on; its client leaves; or another client sends a Bind
 abbrev pub in_exchange : List Move
