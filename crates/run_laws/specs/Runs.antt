@@ -2,6 +2,7 @@
 use Rattle.std.specs.Prelude.{List, IsTrue}
 use Rattle.lload_spec.specs.Settings.{Settings}
 use Rattle.lload_spec.specs.Journal.{Family, family}
+use Rattle.lload_spec.specs.Fifo.{each_unanswered}
 use Rattle.part_spec.specs.Merge.{PartMove, world_of}
 use Rattle.part_spec.specs.World.{journal_of, list_in}
 use Rattle.link_laws.specs.Moves.{end_rightly}
@@ -33,3 +34,8 @@ RunsAreJoined =
 abbrev pub RunsKeepSeveralLists : Type 0
 RunsKeepSeveralLists =
     (s : Settings) (ms : List PartMove) → IsTrue (end_rightly ms) → OfSeveralLists s (family_of_run s ms)
+
+-- where an operation was not Sent, its client got nothing for it, or one answer of the proxy's own
+abbrev pub RunsKeepUnanswered : Type 0
+RunsKeepUnanswered =
+    (s : Settings) (ms : List PartMove) → IsTrue (end_rightly ms) → IsTrue (each_unanswered (family_of_run s ms))

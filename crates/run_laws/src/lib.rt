@@ -5,7 +5,7 @@
 //! fitness.
 #![tactic(auto)]
 
-ghost use Rattle.run_laws.specs.Runs.{RunsAreShared, RunsAreJoined, RunsKeepOneList, RunsKeepSeveralLists};
+ghost use Rattle.run_laws.specs.Runs.{RunsAreShared, RunsAreJoined, RunsKeepOneList, RunsKeepSeveralLists, RunsKeepUnanswered};
 
 /// In every run each part's list keeps the part's whole share of the promises: each letter was fit where it was taken.
 pub fn parts_keep_their_shares_in_runs()
@@ -44,4 +44,13 @@ pub fn promises_of_several_lists_hold_of_runs()
 {
     parts_are_joined_in_runs();
     joined_laws::shares_and_links_give_what_is_said_of_several_lists();
+}
+
+/// In every run an operation that was sent to no upstream gets nothing, or one answer of the proxy's own.
+pub fn operations_that_were_not_sent_get_one_answer_in_runs()
+    ensures { RunsKeepUnanswered }
+{
+    parts_are_joined_in_runs();
+    lload_spec::the_family_of_a_journal_is_whole();
+    fifo_laws::an_operation_that_was_not_sent_gets_one_answer_of_the_proxy();
 }
