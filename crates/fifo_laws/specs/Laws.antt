@@ -3,9 +3,16 @@ use Rattle.std.specs.Prelude.{List, IsTrue}
 use Rattle.lload_names.specs.declared.names.PartName.{PartName}
 use Rattle.lload_spec.specs.Settings.{Settings}
 use Rattle.lload_spec.specs.Journal.{Family, IsWhole}
-use Rattle.lload_spec.specs.Fifo.{each_unanswered}
+use Rattle.lload_spec.specs.Fifo.{each_sent_once, each_unanswered}
+use Rattle.lload_spec.specs.Lists.{are_distinct}
 use Rattle.part_spec.specs.Marked.{Marked}
 use Rattle.joined_laws.specs.Joined.{Joined}
+
+-- at most one Sent of an operation stands in all lists, where the family names each connection once
+abbrev pub FifoSentOnce : Type 0
+FifoSentOnce =
+    (s : Settings) (F : Family) (marked : PartName → List Marked) → IsTrue (are_distinct F.connections)
+    → Joined s F marked → IsTrue (each_sent_once F)
 
 -- where an operation was not Sent, its client got nothing for it, or one answer of the proxy's own
 abbrev pub FifoUnanswered : Type 0

@@ -5,7 +5,12 @@
 //! made them.
 #![tactic(auto)]
 
-ghost use Rattle.fifo_laws.specs.Laws.{FifoUnanswered};
+ghost use Rattle.fifo_laws.specs.Laws.{FifoSentOnce, FifoUnanswered};
+
+/// An operation is sent to one upstream at most, and there once.
+pub fn an_operation_is_sent_once()
+    ensures { FifoSentOnce }
+{}
 
 /// Where an operation was sent to no upstream, no upstream's answer reached its client: it got nothing, or one answer of
 /// the proxy's own.
