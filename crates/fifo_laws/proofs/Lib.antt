@@ -3,3 +3,4 @@ pub mod Quiet
 pub mod Sents
 mod Unanswered
 mod SentOnce
+mod Numbers

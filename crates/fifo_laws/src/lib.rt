@@ -5,7 +5,12 @@
 //! made them.
 #![tactic(auto)]
 
-ghost use Rattle.fifo_laws.specs.Laws.{FifoSentOnce, FifoUnanswered};
+ghost use Rattle.fifo_laws.specs.Laws.{ConnectionsOnce, FifoSentOnce, FifoUnanswered};
+
+/// The family of a journal names each of its connections once.
+pub fn a_journal_names_each_connection_once()
+    ensures { ConnectionsOnce }
+{}
 
 /// An operation is sent to one upstream at most, and there once.
 pub fn an_operation_is_sent_once()
@@ -14,6 +19,6 @@ pub fn an_operation_is_sent_once()
 
 /// Where an operation was sent to no upstream, no upstream's answer reached its client: it got nothing, or one answer of
 /// the proxy's own.
-pub fn an_operation_that_was_not_sent_gets_one_answer_of_the_proxy()
+pub fn an_operation_that_was_not_sent_is_answered_by_the_proxy_alone()
     ensures { FifoUnanswered }
 {}
