@@ -2,7 +2,7 @@
 use Rattle.std.specs.Prelude.{List, IsTrue}
 use Rattle.lload_spec.specs.Settings.{Settings}
 use Rattle.lload_spec.specs.Journal.{Family, family}
-use Rattle.lload_spec.specs.Fifo.{each_unanswered}
+use Rattle.lload_spec.specs.Fifo.{each_sent_once, each_unanswered}
 use Rattle.part_spec.specs.Merge.{PartMove, world_of}
 use Rattle.part_spec.specs.World.{journal_of, list_in}
 use Rattle.link_laws.specs.Moves.{end_rightly}
@@ -39,3 +39,8 @@ RunsKeepSeveralLists =
 abbrev pub RunsKeepUnanswered : Type 0
 RunsKeepUnanswered =
     (s : Settings) (ms : List PartMove) → IsTrue (end_rightly ms) → IsTrue (each_unanswered (family_of_run s ms))
+
+-- an operation is Sent at most once, over all connections
+abbrev pub RunsSendOnce : Type 0
+RunsSendOnce =
+    (s : Settings) (ms : List PartMove) → IsTrue (end_rightly ms) → IsTrue (each_sent_once (family_of_run s ms))

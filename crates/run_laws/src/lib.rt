@@ -5,7 +5,7 @@
 //! fitness.
 #![tactic(auto)]
 
-ghost use Rattle.run_laws.specs.Runs.{RunsAreShared, RunsAreJoined, RunsKeepOneList, RunsKeepSeveralLists, RunsKeepUnanswered};
+ghost use Rattle.run_laws.specs.Runs.{RunsAreShared, RunsAreJoined, RunsKeepOneList, RunsKeepSeveralLists, RunsKeepUnanswered, RunsSendOnce};
 
 /// In every run each part's list keeps the part's whole share of the promises: each letter was fit where it was taken.
 pub fn parts_keep_their_shares_in_runs()
@@ -46,11 +46,15 @@ pub fn promises_of_several_lists_hold_of_runs()
     joined_laws::shares_and_links_give_what_is_said_of_several_lists();
 }
 
-/// In every run an operation that was sent to no upstream gets nothing, or one answer of the proxy's own.
-pub fn operations_that_were_not_sent_get_one_answer_in_runs()
-    ensures { RunsKeepUnanswered }
+/// In every run an operation is sent at most once, over all connections; and one that was sent to no upstream gets nothing,
+/// or one answer of the proxy's own.
+pub fn operations_are_sent_once_or_answered_by_the_proxy_in_runs()
+    ensures sent_once { RunsSendOnce }
+    ensures unanswered { RunsKeepUnanswered }
 {
     parts_are_joined_in_runs();
     lload_spec::the_family_of_a_journal_is_whole();
-    fifo_laws::an_operation_that_was_not_sent_gets_one_answer_of_the_proxy();
+    fifo_laws::a_journal_names_each_connection_once();
+    fifo_laws::an_operation_is_sent_once();
+    fifo_laws::an_operation_that_was_not_sent_is_answered_by_the_proxy_alone();
 }
