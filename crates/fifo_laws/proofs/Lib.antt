@@ -2,4 +2,4 @@ pub mod Givings
 pub mod Quiet
 pub mod Sents
 mod Unanswered
-mod SentOnce
+pub mod SentOnce

@@ -68,7 +68,7 @@ module _ (op : OpName) where
       by sender _ i j = absurd (let bad : false ≡ true = i in cc)
   sent_mark s l _ mark rest h k f = absurd (let bad : false ≡ true = h in cc)
 
-  sent_taken : (s : Settings) (l : ConnectionLedger) (ms : List Marked) → each_from (step_connection s) has_connection_mark l.state ms ≡ true → are_fit_from (fits_connection s) (step_connection_ledger s) l ms ≡ true → list_any (λ m. is_sent op m.entry) ms ≡ true → list_any (λ m. is_mark_from (Client op.client) (is_forward_of op) m.mark) ms ≡ true
+  pub sent_taken : (s : Settings) (l : ConnectionLedger) (ms : List Marked) → each_from (step_connection s) has_connection_mark l.state ms ≡ true → are_fit_from (fits_connection s) (step_connection_ledger s) l ms ≡ true → list_any (λ m. is_sent op m.entry) ms ≡ true → list_any (λ m. is_mark_from (Client op.client) (is_forward_of op) m.mark) ms ≡ true
   sent_taken s l [] k f h = absurd (let bad : false ≡ true = h in cc)
   sent_taken s l (m ∷ ms) k f h =
       or_elim (is_sent op m.entry) (list_any (λ x. is_sent op x.entry) ms)

@@ -1,6 +1,6 @@
 -- The exchange that a client is in. While its last Bind is live, what is expected for it comes from the connection that the
 -- client holds; and once that Bind was answered with saslBindInProgress, the answer came from there.
-use Rattle.std.proofs.Common.{◌≡◌, ℕ, suc, Bool, true, false, ◌==◌, ◌&&◌, ◌||◌, not, if◌then◌else◌, List, [], ◌∷◌, ◌++◌, length, refl, ap, ◌∙◌, sym, subst}
+use Rattle.std.proofs.Common.{◌≡◌, ℕ, Bool, true, false, ◌==◌, ◌&&◌, ◌||◌, not, if◌then◌else◌, List, [], ◌∷◌, ◌++◌, refl, ap, ◌∙◌, sym}
 use Rattle.std.specs.Prelude.{Option, Some, None, filter, map, nat_le, unwrap_or}
 use Rattle.std.specs.List.{list_any, list_all}
 use Rattle.std.proofs.lemmas.List.Folds.{list_all-append}
@@ -13,7 +13,7 @@ use Rattle.lload_spec.specs.Lists.{passes, implies, agrees}
 use Rattle.lload_spec.specs.Operations.{is_bind_in, last_bind}
 use Rattle.lload_spec.proofs.Growth.{left, right, both}
 use Rattle.lload_laws.proofs.ListLaws.{all_both, all_imply, any-map, any-ext, implies_by}
-use Rattle.part_laws.proofs.ListLaws.{all_kept, any_before, any_filtered, any_split, eq_eqb, eqb_same, false_by, none_filtered, none_of_both, not_both, not_true, or_elim, or_left, same_number, same_op_eq}
+use Rattle.part_laws.proofs.ListLaws.{all_kept, any_before, any_filtered, any_split, eq_eqb, false_by, none_filtered, none_of_both, not_both, not_true, same_number, same_op_eq}
 use Rattle.part_spec.specs.ClientState.{ClientRow, Held, AskedFor, is_bind_row, forwarded}
 use Rattle.part_spec.specs.Fit.{Expected}
 use Rattle.part_spec.specs.Marked.{Marked}

@@ -1,11 +1,10 @@
 -- Operations of a client's list: each is the one of its name, and stays so as the list grows; the one that an entry makes;
 -- and the last Bind.
-use Rattle.std.proofs.Common.{◌≡◌, ℕ, suc, ◌≤◌, Bool, true, false, ◌==◌, ◌&&◌, not, List, [], ◌∷◌, ◌++◌, length, append_assoc, refl, ap, arith, ◌∙◌, sym, subst}
-use Rattle.std.specs.Prelude.{Option, Some, None, cond, find, filter, map, option_map, nat_le, nat_lt}
+use Rattle.std.proofs.Common.{◌≡◌, ℕ, suc, ◌≤◌, Bool, true, false, ◌==◌, ◌&&◌, not, List, [], ◌∷◌, ◌++◌, length, append_assoc, refl, ap, ◌∙◌, sym, subst}
+use Rattle.std.specs.Prelude.{Option, Some, None, cond, find, filter, map, option_map, nat_lt}
 use Rattle.std.specs.List.{list_any, list_all}
 use Rattle.std.specs.Option.{option_or}
 use Rattle.std.proofs.lemmas.Bool.{leb-true}
-use Rattle.std.proofs.lemmas.Bool.Decides.{nat_tests}
 use Rattle.std.proofs.lemmas.List.{append-nil}
 use Rattle.std.proofs.lemmas.List.Elements.{filter-append}
 use Rattle.std.proofs.lemmas.List.Folds.{find-append}
@@ -15,17 +14,16 @@ use Rattle.ldap_spec.specs.Responses.{has_code}
 use Rattle.ldap_spec.specs.Tags.{bind_in_progress}
 use Rattle.lload_names.specs.declared.names.Entry.{Entry}
 use Rattle.lload_names.specs.declared.names.OpKind.TheVariants.{Bind}
-use Rattle.lload_names.specs.declared.names.OpName.{OpName}
-use Rattle.lload_spec.specs.Entries.{operation_message, out_message}
+use Rattle.lload_spec.specs.Entries.{operation_message}
 use Rattle.lload_spec.specs.Fifo.{is_in_progress}
 use Rattle.lload_spec.specs.Journal.{same_op}
 use Rattle.lload_spec.specs.Lists.{last, passes}
-use Rattle.lload_spec.specs.Operations.{Operation, operations, operation_in, operation_made, is_of, is_bind_in, last_bind, takes_id, out_rest, outs_under, is_final_for}
-use Rattle.lload_spec.proofs.Growth.{left, right, both}
+use Rattle.lload_spec.specs.Operations.{Operation, operations, operation_in, operation_made, is_of, is_bind_in, last_bind, outs_under, is_final_for}
+use Rattle.lload_spec.proofs.Growth.{left, right}
 use Rattle.lload_laws.specs.ClientGrowth.{later_operation, new_operation, is_named_within}
 use Rattle.lload_laws.proofs.ClientGrowth.{operations_grow, operations_one, own_names, old_operations, holds_of_named, outs_grow}
 use Rattle.lload_laws.proofs.ListLaws.{all-map, filter-map, none_found}
-use Rattle.part_laws.proofs.ListLaws.{any_before, eqb_same, false_by, last_push, not_true, same_number, same_op_eq, same_op_refl, same_op_sym}
+use Rattle.part_laws.proofs.ListLaws.{any_before, last_push, not_true, same_number, same_op_refl, same_op_sym}
 use Rattle.client_share_laws.proofs.OperationNames.{are_apart, named_apart}
 use Rattle.client_answer_laws.proofs.Each.{Each}
 use Rattle.client_answer_laws.proofs.Waits.{fresh_number}
@@ -37,15 +35,17 @@ is_own_in os o = find (λ q. same_op o.name q.name) os ≡ Some o
 
 own_behind : (o : Operation) (os qs : List Operation) → list_all (λ q. not (same_op o.name q.name)) qs ≡ true → Each (is_own_in os) qs → Each (is_own_in (o ∷ os)) qs
 own_behind o os [] h k = tt
-own_behind o os (q ∷ qs) h k =
-    (ap (λ b. cond b (Some o) (find (λ x. same_op q.name x.name) os)) (same_op_sym q.name o.name ∙ not_true (same_op o.name q.name) (left (not (same_op o.name q.name)) _ h)) ∙ k.0,
-    own_behind o os qs (right (not (same_op o.name q.name)) _ h) k.1)
+own_behind o os (q ∷ qs) h k = (
+  ap (λ b. cond b (Some o) (find (λ x. same_op q.name x.name) os)) (same_op_sym q.name o.name ∙ not_true (same_op o.name q.name) (left (not (same_op o.name q.name)) _ h)) ∙ k.0,
+  own_behind o os qs (right (not (same_op o.name q.name)) _ h) k.1,
+)
 
 own_each : (os : List Operation) → are_apart os ≡ true → Each (is_own_in os) os
 own_each [] h = tt
-own_each (o ∷ os) h =
-    (ap (λ b. cond b (Some o) (find (λ x. same_op o.name x.name) os)) (same_op_refl o.name),
-    own_behind o os os (left (list_all (λ q. not (same_op o.name q.name)) os) _ h) (own_each os (right (list_all (λ q. not (same_op o.name q.name)) os) _ h)))
+own_each (o ∷ os) h = (
+  ap (λ b. cond b (Some o) (find (λ x. same_op o.name x.name) os)) (same_op_refl o.name),
+  own_behind o os os (left (list_all (λ q. not (same_op o.name q.name)) os) _ h) (own_each os (right (list_all (λ q. not (same_op o.name q.name)) os) _ h)),
+)
 
 -- each operation is the one of its name
 pub own_found : (c : ℕ) (place : List Entry) → Each (λ o. operation_in c place o.name ≡ Some o) (operations c place)

@@ -1,5 +1,5 @@
 -- No answer of the proxy's own has the code saslBindInProgress (RFC 4511, appendix A): computed for each.
-use Rattle.std.proofs.Common.{◌≡◌, Bool, true, false, ◌&&◌, not, List, [], ◌∷◌, refl}
+use Rattle.std.proofs.Common.{◌≡◌, Bool, true, false, not, [], ◌∷◌, refl}
 use Rattle.std.specs.List.{list_all}
 use Rattle.ldap_spec.specs.Bodies.{refusal, cancel_answer, protocol_error_notice}
 use Rattle.ldap_spec.specs.Responses.{has_code}
