@@ -155,10 +155,10 @@ module _ (s : Settings) (F : Family) (marked : PartName → List Marked) (h : Jo
   connection : (u : ℕ) → ConnectionShare s u (marked (Connection u))
   connection u = h.shared.shares (Connection u)
 
-  there : (u : ℕ) × (goes_only op u (gives s (Client op.client) (marked (Client op.client))) ≡ true)
+  pub there : (u : ℕ) × (goes_only op u (gives s (Client op.client) (marked (Client op.client))) ≡ true)
   there = gives_to_one s op op.client (marked (Client op.client)) (begun s op.client (marked (Client op.client)) client) (h.fit (Client op.client))
 
-  sent_there : (u : ℕ) → list_any (is_sent op) (F.connection u) ≡ true → (there.0 == u) ≡ true
+  pub sent_there : (u : ℕ) → list_any (is_sent op) (F.connection u) ≡ true → (there.0 == u) ≡ true
   sent_there u k =
       only_there op there.0 u (gives s (Client op.client) (marked (Client op.client))) there.1
       (was_given s F marked h.linked (Client op.client) (Connection u) (is_forward_of op)

@@ -1,0 +1,4 @@
+pub mod Ids
+pub mod Rests
+pub mod Gots
+pub mod Keeps
