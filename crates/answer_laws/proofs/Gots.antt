@@ -104,7 +104,7 @@ module _ (s : Settings) (op : OpName) (kind : OpKind) (id : ℕ) (req : Message)
   Last rows xs = (xs ≡ m.rest ∷ []) × (answer_by req id m ≡ Some m.rest) × (is_final_for req m.rest ≡ true) × GoneRows rows
 
   abbrev KeptBack : List UpRow → List (List ℕ) → Type 0
-  KeptBack rows xs = (xs ≡ []) × (answer_by req id m ≡ Some m.rest) × (is_final_for req m.rest ≡ true) × KeptRows rows
+  KeptBack rows xs = (xs ≡ []) × (answer_by req id m ≡ Some m.rest) × (is_final_for req m.rest ≡ true) × KeptRows rows × (is_bind p ≡ true)
 
   abbrev Steps : List UpRow → List (List ℕ) → Type 0
   Steps rows xs = None' rows xs ⊎ (More rows xs ⊎ (Last rows xs ⊎ KeptBack rows xs))
@@ -272,7 +272,7 @@ module _ (s : Settings) (op : OpName) (kind : OpKind) (id : ℕ) (req : Message)
           by true c k x y z = more (told op (reply q.op m.rest false None)) (reply_told op q.op m.rest false None [] mine refl) (none_final x)
           by false true k x y z = last (told op (reply q.op m.rest true None)) (reply_told op q.op m.rest true None [] mine refl) (is_last x) (settles x (one_code y))
           by false false false x y z = last (told op (reply q.op m.rest true None ++ holder_ended p)) (reply_told op q.op m.rest true None (holder_ended p) mine (holder_quiet op p)) (is_last x) (settles x z)
-          by false false true x y z = inr (inr (inr (quiet_told op (letters_alone (keep_back s p)) (keeps_quiet op s p), an_answer this_id fit_kind, final_is ∙ ap (λ j. is_final j m.rest) kind_is ∙ is_last x, rows_by (is_kept_as m.rest) (record q { answered = at; kept = Some (record { rest = m.rest; who = None }) } ∷ []) (behind_is ∙ ap (λ b. elim b [ true ↦ behind_final at m.rest q | false ↦ record q { answered = at } ∷ [] ]) (is_last x) ∙ keeps z) (both (of_mine op (is_kept_as m.rest) (record q { answered = at; kept = Some (record { rest = m.rest; who = None }) })) true (implies_by (same_op op q.op) _ (λ j. bytes_same m.rest)) refl))))
+          by false false true x y z = inr (inr (inr (quiet_told op (letters_alone (keep_back s p)) (keeps_quiet op s p), an_answer this_id fit_kind, final_is ∙ ap (λ j. is_final j m.rest) kind_is ∙ is_last x, rows_by (is_kept_as m.rest) (record q { answered = at; kept = Some (record { rest = m.rest; who = None }) } ∷ []) (behind_is ∙ ap (λ b. elim b [ true ↦ behind_final at m.rest q | false ↦ record q { answered = at } ∷ [] ]) (is_last x) ∙ keeps z) (both (of_mine op (is_kept_as m.rest) (record q { answered = at; kept = Some (record { rest = m.rest; who = None }) })) true (implies_by (same_op op q.op) _ (λ j. bytes_same m.rest)) refl), bp)))
 
   -- The message.
   nothing_mine : (xs : List (List ℕ)) → xs ≡ [] → list_all (of_mine op is_unlike) p.rows ≡ true → Steps rows_behind xs

@@ -82,7 +82,7 @@ taken_others i (r ∷ rows) k = by (r.id == i) refl k (taken_others i rows)
 
 module _ (s : Settings) (place : List Entry) (p : ConnectionState) (h : Ids place p) where
   -- the identifier that an operation gets is no row's, nor the own Bind's
-  untaken : is_taken p.rows (id_for p.ids) ≡ false
+  pub untaken : is_taken p.rows (id_for p.ids) ≡ false
   untaken = by p.ids.free h.free_apart
     where
       first : List ℕ → ℕ

@@ -2,3 +2,6 @@ pub mod Ids
 pub mod Rests
 pub mod Gots
 pub mod Keeps
+pub mod Places
+pub mod Told
+pub mod Opens
