@@ -15,7 +15,6 @@ use Rattle.lload_names.specs.declared.names.Entry.{Entry}
 use Rattle.lload_names.specs.declared.names.OpKind.{OpKind}
 use Rattle.lload_names.specs.declared.names.OpKind.TheVariants.{Bind}
 use Rattle.lload_names.specs.declared.names.OpName.{OpName}
-use Rattle.lload_spec.specs.Answers.{is_kept_back}
 use Rattle.lload_spec.specs.BadMessages.{MessageFacts, OpenRequest, is_bad, is_bad_answer, is_bad_for, is_bad_own, is_bad_other, is_for_own, is_ignored}
 use Rattle.lload_spec.specs.BadMessages as bad
 use Rattle.lload_spec.specs.Journal.{same_op}
@@ -27,12 +26,12 @@ use Rattle.lload_laws.proofs.ListLaws.{all_both, all_imply, bytes_same, find-map
 use Rattle.part_laws.proofs.ListLaws.{eq_eqb, false_by, not_both, not_true, same_number}
 use Rattle.part_spec.specs.BindTurn.{answered as bind_answered, keep_back, row_answer as bind_row_answer, who_answer}
 use Rattle.part_spec.specs.ConnectionState.{ConnectionState, UpRow, Kept, OwnWait, behind_answer, behind_final, behind_message, behind_who, is_bind, is_bind_row, is_under, is_under_own, is_under_who, keeps_back, message_facts, open_request, with_got}
-use Rattle.part_spec.specs.ConnectionTurn.{ended, holder_ended, goes_down, latency, takes_down}
+use Rattle.part_spec.specs.ConnectionTurn.{ended, holder_ended, goes_down, latency}
 use Rattle.part_spec.specs.Gives.{got_letters}
-use Rattle.part_spec.specs.Inputs.{Act, act, letters_alone, nothing, reply}
+use Rattle.part_spec.specs.Inputs.{act, letters_alone, nothing, reply}
 use Rattle.part_spec.specs.RegularTurn.{answered, own_answer, row_answer}
 use Rattle.connection_laws.proofs.Apart.{is_taken, shrinks_message}
-use Rattle.fifo_laws.proofs.Quiet.{is_quiet, own_quiet, row_quiet, bind_row_quiet, who_quiet, holder_quiet, keeps_quiet}
+use Rattle.fifo_laws.proofs.Quiet.{own_quiet, row_quiet, bind_row_quiet, who_quiet, holder_quiet, keeps_quiet}
 use Rattle.forward_laws.proofs.Causes.{kind_eq}
 use Rattle.answer_laws.proofs.Ids.{Ids, is_given, is_own_apart}
 use Rattle.answer_laws.proofs.Rests.{told, quiet_told, reply_told, of_mine, mine_flat, lone_found, other_found, none_found_mine, one_mine}

@@ -16,10 +16,9 @@ use Rattle.lload_names.specs.declared.names.Letter.TheVariants.{Forward}
 use Rattle.lload_names.specs.declared.names.OpKind.TheVariants.{Bind}
 use Rattle.lload_names.specs.declared.names.OpKind.{OpKind}
 use Rattle.lload_names.specs.declared.names.OpName.{OpName}
-use Rattle.lload_names.specs.declared.names.PartName.{PartName}
 use Rattle.lload_names.specs.declared.names.What.{What}
 use Rattle.lload_names.specs.declared.names.What.TheVariants as what
-use Rattle.lload_spec.specs.Entries.{Named, sent_message, is_sent}
+use Rattle.lload_spec.specs.Entries.{sent_message, is_sent}
 use Rattle.lload_spec.specs.Identifiers.{id_for, has_right_id, with_freed}
 use Rattle.lload_spec.specs.Journal.{same_op}
 use Rattle.lload_spec.specs.Lists.{agrees, implies, passes, where_there}

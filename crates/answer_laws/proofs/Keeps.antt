@@ -17,7 +17,6 @@ use Rattle.lload_names.specs.declared.names.Letter.{Letter}
 use Rattle.lload_names.specs.declared.names.Letter.TheVariants.{Forward}
 use Rattle.lload_names.specs.declared.names.OpKind.{OpKind}
 use Rattle.lload_names.specs.declared.names.OpName.{OpName}
-use Rattle.lload_names.specs.declared.names.Posted.{Posted}
 use Rattle.lload_names.specs.declared.names.Refusal.TheVariants.{C9}
 use Rattle.lload_names.specs.declared.names.What.{What}
 use Rattle.lload_names.specs.declared.names.What.TheVariants as what
@@ -30,8 +29,8 @@ use Rattle.lload_spec.specs.Settings.{Settings, is_kind}
 use Rattle.lload_spec.proofs.Growth.{left, right, both}
 use Rattle.lload_laws.proofs.ListLaws.{any-map, find-map, found, found_passes, implied, implies_by}
 use Rattle.part_laws.proofs.ListLaws.{false_by, not_true, or_left, or_right, same_op_eq}
-use Rattle.part_spec.specs.BindTurn.{answered as bind_answered, identity_letters, kept_rest, row_answer as bind_row_answer, who_answer}
-use Rattle.part_spec.specs.ConnectionState.{ConnectionState, UpRow, Kept, OwnWait, behind_answer, behind_message, behind_own, behind_who, connection_behind, is_abandoned_by, is_bind, is_bind_row, is_under, is_under_own, is_under_who, message_facts, open_request, rows_sent, with_got}
+use Rattle.part_spec.specs.BindTurn.{answered as bind_answered, kept_rest, row_answer as bind_row_answer, who_answer}
+use Rattle.part_spec.specs.ConnectionState.{ConnectionState, UpRow, Kept, behind_answer, behind_message, behind_own, behind_who, connection_behind, is_abandoned_by, is_bind, is_under, is_under_own, is_under_who, message_facts, open_request, rows_sent, with_got}
 use Rattle.part_spec.specs.ConnectionTurn.{holder_ended, goes_down}
 use Rattle.part_spec.specs.Gives.{got_letters}
 use Rattle.part_spec.specs.Inputs.{act, failed, letters_alone, nothing, reply}
@@ -42,7 +41,7 @@ use Rattle.connection_laws.proofs.Apart.{are_apart, shrinks_message, shrinks_own
 use Rattle.connection_laws.proofs.Rows.{all_filter, all_put}
 use Rattle.fifo_laws.proofs.Quiet.{bind_row_quiet, holder_quiet, quiet_both, who_quiet}
 use Rattle.answer_laws.proofs.Gots.{is_kept_as, is_open, own_is}
-use Rattle.answer_laws.proofs.Rests.{told, quiet_told, reply_told, of_mine, mine_flat, lone_found, none_found_mine}
+use Rattle.answer_laws.proofs.Rests.{told, quiet_told, reply_told, of_mine, mine_flat, lone_found}
 
 -- a message that isn't bad, and answers a Who Am I but no row, is an intermediate or an extended response
 answers_who : (p : ConnectionState) (m : Message) (q : UpRow) → is_bad (message_facts p) m ≡ false → is_under_own p m.id ≡ false → find (is_under m.id) p.rows ≡ None → find (is_under_who m.id) p.rows ≡ Some q → is_intermediate m.rest ≡ false → (tag_of m.rest == 0x78) ≡ true

@@ -5,3 +5,5 @@ pub mod Keeps
 pub mod Places
 pub mod Told
 pub mod Opens
+pub mod Sents
+pub mod Answered

@@ -1,10 +1,9 @@
 -- What is known at each place of a connection's list, by its share and by fit letters.
 use Rattle.std.proofs.Common.{◌≡◌, ℕ, Bool, true, false, ◌==◌, ◌&&◌, ◌||◌, not, if◌then◌else◌, List, [], ◌∷◌, ◌++◌, refl, ap, ◌∙◌, sym, subst}
 use Rattle.std.specs.Prelude.{Option, Some, None, is_some}
-use Rattle.std.specs.List.{list_any, list_all}
+use Rattle.std.specs.List.{list_any}
 use Rattle.std.proofs.Math.Bool.{or-false}
 use Rattle.ldap_spec.specs.Kinds.{kind_of, same_kind}
-use Rattle.ldap_spec.specs.Messages.{Message}
 use Rattle.lload_names.specs.declared.names.ConnKind.{ConnKind}
 use Rattle.lload_names.specs.declared.names.ConnKind.TheVariants.{Regular, Bind as BindKind}
 use Rattle.lload_names.specs.declared.names.Entry.{Entry}
@@ -18,14 +17,14 @@ use Rattle.lload_names.specs.declared.names.What.TheVariants as what
 use Rattle.lload_names.specs.declared.plans.Place.{Place}
 use Rattle.lload_spec.specs.Entries.{is_linked, is_of_connection}
 use Rattle.lload_spec.specs.Identifiers.{has_right_id}
-use Rattle.lload_spec.specs.Lists.{agrees, each_split_from, implies, passes}
+use Rattle.lload_spec.specs.Lists.{agrees, each_split_from, passes}
 use Rattle.lload_spec.specs.OneEach.{begins_with_bind, is_own_bind}
 use Rattle.lload_spec.specs.Journal.{same_part}
 use Rattle.lload_spec.specs.Settings.{Settings, is_kind, place_at}
 use Rattle.lload_spec.specs.Strict.{is_empty, lives_as_connection, may_pass}
 use Rattle.lload_spec.proofs.Growth.{left, right, both}
 use Rattle.part_laws.proofs.ListLaws.{or_true}
-use Rattle.part_spec.specs.ConnectionState.{ConnectionState, OwnWait, connection_behind, empty_connection, is_bind, is_first_bind, is_under_own, kind_at, step_connection}
+use Rattle.part_spec.specs.ConnectionState.{ConnectionState, connection_behind, empty_connection, is_bind, is_under_own, kind_at, step_connection}
 use Rattle.part_spec.specs.Fit.{ConnectionLedger, empty_connection_ledger, step_connection_ledger, fits_connection, are_fit_from, is_free_for, is_held_for, is_forward_of, is_of_its_kind, is_unfit}
 use Rattle.part_spec.specs.Marked.{Marked, Taken, entries}
 use Rattle.part_spec.specs.Marks.{each_from, has_connection_mark}
@@ -33,6 +32,7 @@ use Rattle.part_spec.specs.Share.{ConnectionShare, each_place, is_bad_told, is_s
 use Rattle.connection_laws.proofs.ConnectionSays.{UpSays, up_says_more, kind_step, linked_step, number_step}
 use Rattle.connection_laws.proofs.Permits.{push_entry}
 use Rattle.joined_laws.proofs.Taken.{is_fit_there}
+use Rattle.fifo_laws.proofs.SentOnce.{first_of, of_client}
 use Rattle.answer_laws.proofs.Ids.{Ids, ids_more, is_of_its_sort}
 
 -- what the state and the list say at a place
@@ -44,6 +44,11 @@ pub record At (s : Settings) (u : ℕ) (place : List Entry) (p : ConnectionState
   pub kind : p.kind ≡ kind_at s u
   pub bare : is_bind p ≡ true → p.own_bind ≡ None
 
+-- whether a Forward comes from the client of its operation
+abbrev pub is_of_its_client : PartName → Letter → Bool
+is_of_its_client sender (Forward op sort rest ask holder) = same_part (Client op.client) sender
+is_of_its_client sender _ = true
+
 -- what the share says of an entry, by the state before it
 pub record Right (s : Settings) (u : ℕ) (b : List Marked) (p : ConnectionState) (m : Marked) (ms : List Marked) : Type 0 where
   pub marked : has_connection_mark p m ≡ true
@@ -53,6 +58,7 @@ pub record Right (s : Settings) (u : ℕ) (b : List Marked) (p : ConnectionState
   pub bad : is_bad_told p m ms ≡ true
   pub life : lives_as_connection (entries b) m.entry ≡ true
   pub fit : (t : Taken) → m.mark ≡ Some t → is_of_its_sort p t.letter ≡ true
+  pub sender : (t : Taken) → m.mark ≡ Some t → is_of_its_client t.sender t.letter ≡ true
 
 abbrev pub Rights : Settings → ℕ → List Marked → ConnectionState → List Marked → Type 0
 Rights s u b p [] = Unit {0}
@@ -149,29 +155,39 @@ sort_fits s l sender (Forward op kind rest ask holder) h =
     (fifth (same_part sender (Client op.client)) (same_part sender (Client holder.client)) (not (list_any (λ t. is_forward_of op t.letter) l.taken)) l.state.up (is_of_its_kind s l.state kind rest ask) (not (is_bind l.state) || is_free_for l.state holder && is_held_for l.state op holder) h))
 sort_fits s l sender _ h = refl
 
+client_fits : (s : Settings) (l : ConnectionLedger) (sender : PartName) (x : Letter) → fits_connection s l sender x ≡ true → is_of_its_client sender x ≡ true
+client_fits s l sender (Forward op kind rest ask holder) h =
+    of_client sender op.client (first_of (same_part sender (Client op.client)) (same_part sender (Client holder.client)) (not (list_any (λ t. is_forward_of op t.letter) l.taken)) l.state.up (is_of_its_kind s l.state kind rest ask) (not (is_bind l.state) || is_free_for l.state holder && is_held_for l.state op holder) h)
+client_fits s l sender _ h = refl
+
 pub rights : (s : Settings) (u : ℕ) (b : List Marked) (l : ConnectionLedger) (ms : List Marked)
-      → each_from (step_connection s) has_connection_mark l.state ms ≡ true
-      → each_place (step_connection s) (λ p c m d. has_right_id p.ids m.entry.what) l.state b ms ≡ true
-      → each_place (step_connection s) (λ p c m d. may_pass (is_kind Regular p.kind) p.waiting m.entry.what) l.state b ms ≡ true
-      → each_place (step_connection s) (λ p c m d. is_sent_once p (entries c) m) l.state b ms ≡ true
-      → each_place (step_connection s) (λ p c m d. is_bad_told p m d) l.state b ms ≡ true
-      → each_split_from (λ place e d. is_of_connection e.what && lives_as_connection place e) (entries b) (entries ms) ≡ true
-      → are_fit_from (fits_connection s) (step_connection_ledger s) l ms ≡ true
-      → Rights s u b l.state ms
+    → each_from (step_connection s) has_connection_mark l.state ms ≡ true
+    → each_place (step_connection s) (λ p c m d. has_right_id p.ids m.entry.what) l.state b ms ≡ true
+    → each_place (step_connection s) (λ p c m d. may_pass (is_kind Regular p.kind) p.waiting m.entry.what) l.state b ms ≡ true
+    → each_place (step_connection s) (λ p c m d. is_sent_once p (entries c) m) l.state b ms ≡ true
+    → each_place (step_connection s) (λ p c m d. is_bad_told p m d) l.state b ms ≡ true
+    → each_split_from (λ place e d. is_of_connection e.what && lives_as_connection place e) (entries b) (entries ms) ≡ true
+    → are_fit_from (fits_connection s) (step_connection_ledger s) l ms ≡ true
+    → Rights s u b l.state ms
 rights s u b l [] mk id pa on ba li f = tt
-rights s u b l (m ∷ ms) mk id pa on ba li f =
-    (record {
-      marked = left (has_connection_mark l.state m) _ mk;
-      id_right = left (has_right_id l.state.ids m.entry.what) _ id;
-      passed = left (may_pass (is_kind Regular l.state.kind) l.state.waiting m.entry.what) _ pa;
-      once = left (is_sent_once l.state (entries b) m) _ on;
-      bad = left (is_bad_told l.state m ms) _ ba;
-      life = right (is_of_connection m.entry.what) _ (left (is_of_connection m.entry.what && lives_as_connection (entries b) m.entry) _ li);
-      fit = λ t e. sort_fits s l t.sender t.letter (is_fit_there (fits_connection s) l t _ (subst (λ mark. (not (is_unfit (fits_connection s) l mark) && are_fit_from (fits_connection s) (step_connection_ledger s) (step_connection_ledger s l m) ms) ≡ true) e f));
-    },
-    rights s u (b ++ m ∷ []) (step_connection_ledger s l m) ms (right (has_connection_mark l.state m) _ mk) (right (has_right_id l.state.ids m.entry.what) _ id) (right (may_pass (is_kind Regular l.state.kind) l.state.waiting m.entry.what) _ pa) (right (is_sent_once l.state (entries b) m) _ on) (right (is_bad_told l.state m ms) _ ba)
-    (subst (λ place. each_split_from (λ x e d. is_of_connection e.what && lives_as_connection x e) place (entries ms) ≡ true) (sym (push_entry b m)) (right (is_of_connection m.entry.what && lives_as_connection (entries b) m.entry) _ li))
-    (right (not (is_unfit (fits_connection s) l m.mark)) _ f))
+rights s u b l (m ∷ ms) mk id pa on ba li f = (
+  record {
+    marked = left (has_connection_mark l.state m) _ mk;
+    id_right = left (has_right_id l.state.ids m.entry.what) _ id;
+    passed = left (may_pass (is_kind Regular l.state.kind) l.state.waiting m.entry.what) _ pa;
+    once = left (is_sent_once l.state (entries b) m) _ on;
+    bad = left (is_bad_told l.state m ms) _ ba;
+    life = right (is_of_connection m.entry.what) _ (left (is_of_connection m.entry.what && lives_as_connection (entries b) m.entry) _ li);
+    fit = λ t e. sort_fits s l t.sender t.letter (there t e);
+    sender = λ t e. client_fits s l t.sender t.letter (there t e);
+  },
+  rights s u (b ++ m ∷ []) (step_connection_ledger s l m) ms (right (has_connection_mark l.state m) _ mk) (right (has_right_id l.state.ids m.entry.what) _ id) (right (may_pass (is_kind Regular l.state.kind) l.state.waiting m.entry.what) _ pa) (right (is_sent_once l.state (entries b) m) _ on) (right (is_bad_told l.state m ms) _ ba)
+      (subst (λ place. each_split_from (λ x e d. is_of_connection e.what && lives_as_connection x e) place (entries ms) ≡ true) (sym (push_entry b m)) (right (is_of_connection m.entry.what && lives_as_connection (entries b) m.entry) _ li))
+      (right (not (is_unfit (fits_connection s) l m.mark)) _ f),
+)
+  where
+    there : (t : Taken) → m.mark ≡ Some t → fits_connection s l t.sender t.letter ≡ true
+    there t e = is_fit_there (fits_connection s) l t (are_fit_from (fits_connection s) (step_connection_ledger s) (step_connection_ledger s l m) ms) (subst (λ mark. (not (is_unfit (fits_connection s) l mark) && are_fit_from (fits_connection s) (step_connection_ledger s) (step_connection_ledger s l m) ms) ≡ true) e f)
 
 pub rights_of : (s : Settings) (u : ℕ) (list : List Marked) → ConnectionShare s u list → are_fit_from (fits_connection s) (step_connection_ledger s) (empty_connection_ledger s u) list ≡ true → Rights s u [] (empty_connection s u) list
 rights_of s u list h f = rights s u [] (empty_connection_ledger s u) list h.marks h.ids_right h.passed h.sent_once h.bad_messages h.life f

@@ -1,5 +1,5 @@
 -- The rests of the answers to an operation among letters, in order; and what is so of the rows of an operation.
-use Rattle.std.proofs.Common.{◌≡◌, ℕ, Bool, true, false, ◌==◌, ◌&&◌, ◌||◌, not, if◌then◌else◌, List, [], ◌∷◌, ◌++◌, append_assoc, refl, ap, ◌∙◌, sym, subst}
+use Rattle.std.proofs.Common.{◌≡◌, ℕ, Bool, true, false, ◌==◌, ◌&&◌, ◌||◌, not, if◌then◌else◌, List, [], ◌∷◌, ◌++◌, append_assoc, refl, ap, ◌∙◌, sym}
 use Rattle.std.specs.Prelude.{Option, Some, None, cond, find, flat_map}
 use Rattle.std.specs.List.{list_any, list_all}
 use Rattle.lload_names.specs.declared.names.Letter.{Letter}

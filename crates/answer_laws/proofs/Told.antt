@@ -1,48 +1,36 @@
 -- What a connection gives of answers to an operation that it was sent is a beginning of the answers that it got to it.
-use Rattle.std.proofs.Common.{◌≡◌, ◌⊎◌, inl, inr, ℕ, Bool, true, false, ◌==◌, ◌&&◌, ◌||◌, not, if◌then◌else◌, List, [], ◌∷◌, ◌++◌, append_assoc, refl, ap, ◌∙◌, sym, subst}
-use Rattle.std.specs.Prelude.{Option, Some, None, is_none, is_some}
+use Rattle.std.proofs.Common.{◌≡◌, ◌⊎◌, inl, inr, ℕ, Bool, true, false, ◌==◌, ◌&&◌, not, List, [], ◌∷◌, ◌++◌, refl, ap, ◌∙◌, sym, subst}
+use Rattle.std.specs.Prelude.{Option, Some, None, is_none}
 use Rattle.std.specs.List.{list_any, list_all}
-use Rattle.std.proofs.lemmas.List.{map-append}
-use Rattle.ldap_spec.specs.Kinds.{kind_of, same_kind}
-use Rattle.ldap_spec.specs.Messages.{Message}
 use Rattle.lload_names.specs.declared.names.ConnKind.TheVariants.{Regular, Bind as BindKind}
-use Rattle.lload_names.specs.declared.names.EndWhy.{EndWhy}
 use Rattle.lload_names.specs.declared.names.EndWhy.TheVariants.{Bad as BadEnd}
-use Rattle.lload_names.specs.declared.names.Entry.{Entry}
-use Rattle.lload_names.specs.declared.names.OpKind.{OpKind}
 use Rattle.lload_names.specs.declared.names.OpName.{OpName}
 use Rattle.lload_names.specs.declared.names.What.{What}
 use Rattle.lload_names.specs.declared.names.What.TheVariants as what
-use Rattle.lload_spec.specs.Answers.{answer_of, answers_under, gives_id, reign_of, with_later}
 use Rattle.lload_spec.specs.BadMessages.{is_bad}
-use Rattle.lload_spec.specs.Entries.{down_why, given_id, got_message, is_down, is_down_by, is_linked, is_sent, same_why, sent_message}
-use Rattle.lload_spec.specs.Identifiers.{has_right_id, id_for}
+use Rattle.lload_spec.specs.Entries.{down_why, got_message, is_down, is_down_by, is_linked, is_sent, same_why}
 use Rattle.lload_spec.specs.Journal.{same_op}
 use Rattle.lload_spec.specs.Lists.{agrees, first_passes, implies, passes}
-use Rattle.lload_spec.specs.Operations.{is_final_for}
 use Rattle.lload_spec.specs.Pauses.{is_waiting}
 use Rattle.lload_spec.specs.Settings.{Settings, is_kind}
-use Rattle.lload_spec.specs.Strict.{is_empty, lives_as_connection, may_follow_down, may_pass}
+use Rattle.lload_spec.specs.Strict.{is_empty, may_follow_down, may_pass}
 use Rattle.lload_spec.proofs.Growth.{left, right, both}
 use Rattle.lload_laws.proofs.ListLaws.{implied}
-use Rattle.part_laws.proofs.ListLaws.{eq_eqb, false_by, not_true, same_number}
-use Rattle.part_spec.specs.ConnectionState.{ConnectionState, UpRow, connection_behind, is_bind, is_holding, is_there, is_under_own, message_facts, step_connection, with_got}
+use Rattle.part_spec.specs.ConnectionState.{ConnectionState, connection_behind, is_bind, is_holding, is_there, message_facts, step_connection, with_got}
 use Rattle.part_spec.specs.BindTurn.{answered as bind_answered}
 use Rattle.part_spec.specs.ConnectionTurn.{goes_down}
 use Rattle.part_spec.specs.RegularTurn.{answered}
 use Rattle.part_spec.specs.Inputs.{letters_alone}
 use Rattle.part_spec.specs.Gives.{connection_gives, connection_letters, got_letters}
 use Rattle.part_spec.specs.Marked.{Marked, Taken, entries}
-use Rattle.part_spec.specs.Marks.{each_from, has_connection_mark, marks_connection, must_mark_connection}
-use Rattle.part_spec.specs.Share.{is_bad_told}
+use Rattle.part_spec.specs.Marks.{has_connection_mark, marks_connection, must_mark_connection}
 use Rattle.connection_laws.proofs.ConnectionSays.{kind_step}
 use Rattle.connection_laws.proofs.Permits.{push_entry}
 use Rattle.fifo_laws.proofs.Quiet.{gives_quiet, others_quiet}
-use Rattle.answer_laws.proofs.Gots.{answer_by, got_open, is_kept_as, is_open}
-use Rattle.answer_laws.proofs.Ids.{Ids, is_given}
-use Rattle.answer_laws.proofs.Keeps.{got_kept, kept_stays, open_stays, others_stay}
+use Rattle.answer_laws.proofs.Gots.{is_kept_as}
+use Rattle.answer_laws.proofs.Keeps.{got_kept, kept_stays, others_stay}
 use Rattle.answer_laws.proofs.Places.{At, Right, Rights, at_more, marks_of}
-use Rattle.answer_laws.proofs.Rests.{told, told_both, quiet_told, of_mine, none_mine, gone_mine, one_mine}
+use Rattle.answer_laws.proofs.Rests.{told, told_both, quiet_told, of_mine, gone_mine}
 
 -- whether what is told is a beginning of the answers
 abbrev pub Begins : List (List ℕ) → List (List ℕ) → Type 0

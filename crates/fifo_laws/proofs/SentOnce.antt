@@ -39,7 +39,7 @@ use Rattle.joined_laws.proofs.Walks.{begun}
 use Rattle.fifo_laws.specs.Laws.{FifoSentOnce}
 use Rattle.fifo_laws.proofs.Givings.{goes_only, gives_to_one}
 
-of_client : (sender : PartName) (n : ℕ) → same_part sender (Client n) ≡ true → same_part (Client n) sender ≡ true
+pub of_client : (sender : PartName) (n : ℕ) → same_part sender (Client n) ≡ true → same_part (Client n) sender ≡ true
 of_client (Client m) n h = eqb_sym n m ∙ h
 of_client _ n h = absurd (let bad : false ≡ true = h in cc)
 
@@ -47,11 +47,11 @@ one_number : (w u : ℕ) (p : PartName) → same_part (Connection w) p ≡ true 
 one_number w u (Connection v) h k = eq_eqb w u (same_number w v h ∙ sym (same_number u v k))
 one_number w u _ h k = absurd (let bad : false ≡ true = h in cc)
 
-first_of : (a b c d e f : Bool) → (a && b && c && d && e && f) ≡ true → a ≡ true
+pub first_of : (a b c d e f : Bool) → (a && b && c && d && e && f) ≡ true → a ≡ true
 first_of a b c d e f h = left a b (left (a && b) c (left (a && b && c) d (left (a && b && c && d) e (left (a && b && c && d && e) f h))))
 
 module _ (op : OpName) where
-  abbrev is_own : Sending → Bool
+  abbrev pub is_own : Sending → Bool
   is_own sent = same_op op sent.op
 
   -- The Forward of a Sent was taken from the operation's client.
@@ -85,7 +85,7 @@ module _ (op : OpName) where
 
   -- The Sents of a list.
 
-  others_here : (u : ℕ) (before es : List Entry) → list_any (is_sent op) es ≡ false → list_all (λ sent. not (is_own sent)) (sendings_from u before es) ≡ true
+  pub others_here : (u : ℕ) (before es : List Entry) → list_any (is_sent op) es ≡ false → list_all (λ sent. not (is_own sent)) (sendings_from u before es) ≡ true
   others_here u before [] h = refl
   others_here u before (e ∷ es) h = by (sent_message e.what) h (others_here u (before ++ e ∷ []) es)
     where

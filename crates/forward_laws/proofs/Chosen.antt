@@ -37,7 +37,7 @@ use Rattle.forward_laws.proofs.Outs.{none_of}
 use Rattle.forward_laws.proofs.Sendings.{all_sent, each_sending, given_to, sent_at}
 use Rattle.forward_laws.proofs.Walk.{forward_cause}
 
-kind_same : (kind : OpKind) → same_kind kind kind ≡ true
+pub kind_same : (kind : OpKind) → same_kind kind kind ≡ true
 kind_same Bind = refl
 kind_same Search = refl
 kind_same Modify = refl
