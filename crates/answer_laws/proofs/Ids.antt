@@ -231,9 +231,6 @@ module _ (s : Settings) (place : List Entry) (p : ConnectionState) (m : Marked) 
       id_is : id ≡ p.ids.next
       id_is = same_number id p.ids.next next
 
-      rows_behind : List UpRow
-      rows_behind = flat_map (behind_own (record { id = id; rest = rest })) p.rows
-
       owns : (b : Bool) (o : Option OwnWait) → where_there (is_own_apart p) o ≡ true → where_there (λ own. nat_lt own.id (max p.ids.next (suc id)) && not (is_taken (flat_map (behind_own (record { id = id; rest = rest })) p.rows) own.id) && not (list_any (λ n. n == own.id) p.ids.free)) (if b then Some (record { id = id; at = m.entry.at }) else o) ≡ true
       owns true o k =
           both (nat_lt id (max p.ids.next (suc id)) && not (is_taken (flat_map (behind_own (record { id = id; rest = rest })) p.rows) id)) _

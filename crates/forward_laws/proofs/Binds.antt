@@ -74,9 +74,6 @@ module _ (s : Settings) (c : ℕ) (place : List Entry) (b : List Marked) (l : Cl
     abbrev Next : Bool → Bool → List AskedFor → List Expected → Type 0
     Next mk bd asked expected = Exchange c (bind_number c (place ++ m.entry ∷ [])) (place ++ m.entry ∷ []) (b ++ m ∷ []) (state_by mk bd).rows (state_by mk bd).hold asked (state_by mk bd).in_exchange (filter (λ x. not (is_last_by x.op m.mark)) expected)
 
-    put : Bool → Option Message
-    put x = elim x [ true ↦ Some (record { id = id; rest = rest }) | false ↦ None ]
-
     message : (x : Bool) → makes_operation msg ≡ x → operation_message m.entry.what ≡ elim x [ true ↦ Some (record { id = id; rest = rest }) | false ↦ None ]
     message x e = ap operation_message is_in ∙ ap (λ y. elim y [ true ↦ Some (record { id = id; rest = rest }) | false ↦ None ]) e
 

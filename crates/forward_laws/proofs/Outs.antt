@@ -147,9 +147,6 @@ module _ (s : Settings) (c : ℕ) (place : List Entry) (b : List Marked) (l : Cl
       got : (q : Operation) → mine.0 ≡ q → is_in_progress (later_operation m.entry q) ≡ true
       got q e = subst (λ (o : Operation). is_in_progress (later_operation m.entry o) ≡ true) e (ap (list_any (λ x. is_final_for mine.0.request x && has_code bind_in_progress x)) grown ∙ any_behind (λ x. is_final_for mine.0.request x && has_code bind_in_progress x) (outs_under mine.0.request.id mine.0.behind) (rest ∷ []) (or_left (is_final_for mine.0.request rest && has_code bind_in_progress rest) false (both (is_final_for mine.0.request rest) _ (ap (passes (λ kind. is_final kind rest)) (sym mine.1.0.kind) ∙ final) step)))
         where
-          out_of : (i : ℕ) → i ≡ id → (if i == i then rest ∷ [] else []) ≡ rest ∷ []
-          out_of i k = ap (λ x. if x then rest ∷ [] else []) (eqb_same i)
-
           this_id : mine.0.request.id ≡ id
           this_id = sym mine.1.0.id ∙ same_number r.request.id id of_row.1
 
