@@ -11,7 +11,7 @@ use Rattle.lload_names.specs.declared.names.PartName.TheVariants.{Desk, Client, 
 use Rattle.lload_spec.specs.Answers.{Sending, answers, sendings}
 use Rattle.lload_spec.specs.Entries.{is_sent}
 use Rattle.lload_spec.specs.Fifo.{allowed, is_answered_by}
-use Rattle.lload_spec.specs.Journal.{Family, IsWhole, same_op, same_part}
+use Rattle.lload_spec.specs.Journal.{Family, same_op, same_part}
 use Rattle.lload_spec.specs.Lists.{implies, passes}
 use Rattle.lload_spec.specs.Operations.{Operation, operations, outs}
 use Rattle.lload_spec.specs.Settings.{Settings}
@@ -95,7 +95,7 @@ replies_of u op (m ∷ ms) h = ap (λ l. reply_rest op m.mark ++ l) (replies_of 
         by false true e j = absurd (let bad : false ≡ true = j in cc)
         by false false e j = none_told op (Some t) (ap not e)
 
-module _ (s : Settings) (F : Family) (marked : PartName → List Marked) (whole : IsWhole F) (h : Joined s F marked) where
+module _ (s : Settings) (F : Family) (marked : PartName → List Marked) (h : Joined s F marked) where
   client : (c : ℕ) → ClientShare s c (marked (Client c))
   client c = h.shared.shares (Client c)
 
@@ -147,4 +147,4 @@ module _ (s : Settings) (F : Family) (marked : PartName → List Marked) (whole 
   answered_at u = all_members (is_answered_by F) (sendings u (F.connection u)) (λ sent at. sent_so u sent (at (λ x. list_any (is_sent x.op) (F.connection u) ≡ true) (each_of (λ x. list_any (is_sent x.op) (F.connection u)) (sendings u (F.connection u)) (each_sending u (λ x. list_any (is_sent x.op) (F.connection u)) [] (F.connection u) (λ x e k. k)))) (at (λ x. same_op sent.op x.op ≡ true → SentTold s u sent.op x (empty_connection s u) (marked (Connection u))) (told_at u sent.op) (same_op_refl sent.op)))
 
 pub answered : FifoAnswered
-answered s F marked whole h = all_sent F (is_answered_by F) F.connections (answered_at s F marked whole h)
+answered s F marked h = all_sent F (is_answered_by F) F.connections (answered_at s F marked h)

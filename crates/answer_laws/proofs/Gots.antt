@@ -93,8 +93,8 @@ module _ (s : Settings) (op : OpName) (kind : OpKind) (id : ℕ) (req : Message)
   KeptRows rows = list_all (of_mine op (is_kept_as m.rest)) rows ≡ true
 
   -- it is none to the operation; it is one, and told; it is the last one, and told; or it is kept back
-  abbrev None' : List UpRow → List (List ℕ) → Type 0
-  None' rows xs = (xs ≡ []) × (answer_by req id m ≡ None) × OpenRows rows
+  abbrev Beside : List UpRow → List (List ℕ) → Type 0
+  Beside rows xs = (xs ≡ []) × (answer_by req id m ≡ None) × OpenRows rows
 
   abbrev More : List UpRow → List (List ℕ) → Type 0
   More rows xs = (xs ≡ m.rest ∷ []) × (answer_by req id m ≡ Some m.rest) × (is_final_for req m.rest ≡ false) × OpenRows rows
@@ -106,7 +106,7 @@ module _ (s : Settings) (op : OpName) (kind : OpKind) (id : ℕ) (req : Message)
   KeptBack rows xs = (xs ≡ []) × (answer_by req id m ≡ Some m.rest) × (is_final_for req m.rest ≡ true) × KeptRows rows × (is_bind p ≡ true)
 
   abbrev Steps : List UpRow → List (List ℕ) → Type 0
-  Steps rows xs = None' rows xs ⊎ (More rows xs ⊎ (Last rows xs ⊎ KeptBack rows xs))
+  Steps rows xs = Beside rows xs ⊎ (More rows xs ⊎ (Last rows xs ⊎ KeptBack rows xs))
 
   final_is : is_final_for req m.rest ≡ is_final kind m.rest
   final_is = ap (passes (λ k. is_final k m.rest)) kind_req

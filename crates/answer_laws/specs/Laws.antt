@@ -2,7 +2,7 @@
 use Rattle.std.specs.Prelude.{List, IsTrue}
 use Rattle.lload_names.specs.declared.names.PartName.{PartName}
 use Rattle.lload_spec.specs.Settings.{Settings}
-use Rattle.lload_spec.specs.Journal.{Family, IsWhole}
+use Rattle.lload_spec.specs.Journal.{Family}
 use Rattle.lload_spec.specs.Fifo.{each_answered}
 use Rattle.part_spec.specs.Marked.{Marked}
 use Rattle.joined_laws.specs.Joined.{Joined}
@@ -11,5 +11,4 @@ use Rattle.joined_laws.specs.Joined.{Joined}
 -- one and then one answer of the proxy's own
 abbrev pub FifoAnswered : Type 0
 FifoAnswered =
-    (s : Settings) (F : Family) (marked : PartName → List Marked) → IsWhole F → Joined s F marked
-    → IsTrue (each_answered F)
+    (s : Settings) (F : Family) (marked : PartName → List Marked) → Joined s F marked → IsTrue (each_answered F)
