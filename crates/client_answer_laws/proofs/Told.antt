@@ -15,7 +15,7 @@ use Rattle.lload_spec.specs.Fifo.{allowed, is_prefix_and_own, is_own_answer}
 use Rattle.lload_spec.specs.Strict.{got_kept_success}
 use Rattle.part_spec.specs.Marked.{Marked}
 use Rattle.part_spec.specs.Share.{replies, reply_rest, has_letter, tells_identity, is_answered_by, is_success_known}
-use Rattle.lload_spec.proofs.Growth.{left, right, both, either}
+use Rattle.lload_spec.proofs.Growth.{left, right, both, either, prefix_grows, allowed_grows}
 use Rattle.lload_laws.specs.ClientGrowth.{later_operation}
 use Rattle.lload_laws.proofs.ClientGrowth.{ending_grows}
 use Rattle.lload_laws.proofs.ListLaws.{prefix_same, bytes_same, implied, implies_by}
@@ -77,21 +77,6 @@ own_behind request [] r h k = k
 own_behind request (x ∷ []) r h k = both (bytes_eq x x && not (is_final_to request x)) _ (both (bytes_eq x x) _ (bytes_same x) (left (not (is_final_to request x)) _ h)) k
 own_behind request (x ∷ y ∷ xs) r h k = both (bytes_eq x x && not (is_final_to request x)) _ (both (bytes_eq x x) _ (bytes_same x) (left (not (is_final_to request x)) _ h)) (own_behind request (y ∷ xs) r (right (not (is_final_to request x)) _ h) k)
 
--- what is allowed stays so with more answers
-prefix_more : (xs ys zs : List (List ℕ)) → is_prefix xs ys ≡ true → is_prefix xs (ys ++ zs) ≡ true
-prefix_more [] ys zs h = refl
-prefix_more (x ∷ xs) [] zs h = absurd (let bad : false ≡ true = h in cc)
-prefix_more (x ∷ xs) (y ∷ ys) zs h = both (bytes_eq x y) _ (left (bytes_eq x y) _ h) (prefix_more xs ys zs (right (bytes_eq x y) _ h))
-
-own_more : (request : List ℕ) (ys xs zs : List (List ℕ)) → is_prefix_and_own request ys xs ≡ true → is_prefix_and_own request (ys ++ zs) xs ≡ true
-own_more request ys [] zs h = absurd (let bad : false ≡ true = h in cc)
-own_more request ys (r ∷ []) zs h = h
-own_more request [] (r ∷ q ∷ rs) zs h = absurd (let bad : false ≡ true = h in cc)
-own_more request (a ∷ ys) (r ∷ q ∷ rs) zs h = both (bytes_eq r a && not (is_final_to request a)) _ (left (bytes_eq r a && not (is_final_to request a)) _ h) (own_more request ys (q ∷ rs) zs (right (bytes_eq r a && not (is_final_to request a)) _ h))
-
-allowed_more : (request : List ℕ) (ys xs zs : List (List ℕ)) → allowed request ys xs ≡ true → allowed request (ys ++ zs) xs ≡ true
-allowed_more request ys xs zs h = either (is_prefix xs ys) (is_prefix_and_own request ys xs) _ _ (prefix_more xs ys zs) (own_more request ys xs zs) h
-
 module _ (s : Settings) (ms : List Marked) (m : Marked) (o : Operation) (h : OpSays s ms o) where
   abbrev later : Operation
   later = later_operation m.entry o
@@ -104,12 +89,12 @@ module _ (s : Settings) (ms : List Marked) (m : Marked) (o : Operation) (h : OpS
 
   -- what it ends with stays
   ends_same : outs (later_operation m.entry o) ≡ outs o → EndsSo s ms o → EndsSo s (ms ++ m ∷ []) (later_operation m.entry o)
-  ends_same e (inl p) = inl (ap (λ l. is_prefix l (replies (ms ++ m ∷ []) o.name)) e ∙ ap (is_prefix (outs o)) (replies_push ms m o.name) ∙ prefix_more (outs o) (replies ms o.name) (reply_rest o.name m.mark) p)
+  ends_same e (inl p) = inl (ap (λ l. is_prefix l (replies (ms ++ m ∷ []) o.name)) e ∙ ap (is_prefix (outs o)) (replies_push ms m o.name) ∙ prefix_grows (outs o) (replies ms o.name) (reply_rest o.name m.mark) p)
   ends_same e (inr q) = inr (record { before = q.before; rest = q.rest; outs_are = e ∙ q.outs_are; over = ending_grows o.request o.behind m.entry ∙ ap (λ b. b && ends_not m.entry o) q.over; caused = caused_more s ms m o h.within q.rest e q.caused })
 
   -- the answers stay allowed, and what was kept back is known
   answered_same : outs (later_operation m.entry o) ≡ outs o → is_answered_by (ms ++ m ∷ []) (later_operation m.entry o) ≡ true
-  answered_same e = ap (allowed o.request.rest (replies (ms ++ m ∷ []) o.name)) e ∙ ap (λ l. allowed o.request.rest l (outs o)) (replies_push ms m o.name) ∙ allowed_more o.request.rest (replies ms o.name) (outs o) (reply_rest o.name m.mark) h.answered
+  answered_same e = ap (allowed o.request.rest (replies (ms ++ m ∷ []) o.name)) e ∙ ap (λ l. allowed o.request.rest l (outs o)) (replies_push ms m o.name) ∙ allowed_grows o.request.rest (replies ms o.name) (outs o) (reply_rest o.name m.mark) h.answered
 
   told_more : list_any (has_letter (tells_identity o.name)) ms ≡ true → list_any (has_letter (tells_identity o.name)) (ms ++ m ∷ []) ≡ true
   told_more k = any_before (has_letter (tells_identity o.name)) ms (m ∷ []) k

@@ -2,12 +2,13 @@
 use Rattle.std.proofs.Common.{◌≡◌, ℕ, Bool, true, false, ◌==◌, ◌&&◌, not, List, [], ◌∷◌, ◌++◌, length, refl, ap, ◌∙◌, sym, subst, append_assoc}
 use Rattle.std.specs.Prelude.{Option, Some, None, is_none}
 use Rattle.std.specs.List.{list_all}
-use Rattle.std.proofs.lemmas.List.{append-nil, map-append}
+use Rattle.std.proofs.lemmas.List.{append-nil, map-append, length-map, take_at}
 use Rattle.ldap_spec.specs.Messages.{Message}
 use Rattle.ldap_spec.specs.Kinds.{kind_of, is_unbind}
 use Rattle.ldap_spec.specs.Bodies.{protocol_error_notice}
 use Rattle.lload_names.specs.Same.{why_number}
 use Rattle.lload_names.specs.declared.names.CancelAnswer.TheVariants.{S1}
+use Rattle.lload_names.specs.declared.names.Entry.{Entry}
 use Rattle.lload_names.specs.declared.names.EndWhy.{EndWhy}
 use Rattle.lload_names.specs.declared.names.EndWhy.TheVariants.{Left, ZeroId, IdInUse, Unreadable}
 use Rattle.lload_names.specs.declared.names.PartName.TheVariants.{Client}
@@ -18,12 +19,12 @@ use Rattle.lload_spec.specs.Lists.{passes, first_passes, each_split_from, some_s
 use Rattle.lload_spec.specs.Settings.{Settings}
 use Rattle.lload_spec.specs.Entries.{in_message, gone_why, is_link_reason, is_notice}
 use Rattle.lload_spec.specs.FirstCheck.{Check, Ends, Unbinds, Abandons, Refuses, Answers, Cancels, GoesOn}
-use Rattle.lload_spec.specs.Caused.{is_unbound, ends_for}
+use Rattle.lload_spec.specs.Caused.{is_unbound, ends_for, is_ended_by_check}
 use Rattle.part_spec.specs.Marked.{Marked, Taken, entries}
 use Rattle.part_spec.specs.Inputs.{entries_of}
 use Rattle.part_spec.specs.ClientState.{ClientState, empty_client, step_client, client_of, facts_of, check_at, row_named}
 use Rattle.part_spec.specs.ClientTurn.{refused, canceled, whats_by, whats_for}
-use Rattle.part_spec.specs.Share.{is_ended_by_check, has_gone_cause, is_gone_caused}
+use Rattle.part_spec.specs.Share.{check_in, has_gone_cause, is_gone_caused}
 use Rattle.part_spec.specs.Fit.{ledger_behind as behind}
 use Rattle.lload_spec.proofs.Growth.{left, right, both}
 use Rattle.part_laws.specs.Turns.{Event, made}
@@ -104,9 +105,19 @@ module _ (s : Settings) (c : ℕ) where
       abbrev notice : Marked
       notice = record { entry = record { part = Client p.number; at = at; what = what.Out 0 protocol_error_notice }; mark = None }
 
+      -- the list up to the notice, with what the check says at its places
+      abbrev ending : List Marked
+      ending = before ++ came ∷ notice ∷ []
+
+      abbrev ends_here : EndWhy → List Entry → Entry → List Entry → Bool
+      ends_here why place e r = passes (λ x. ends_for why (check_in s c ending place x)) (in_message e.what) && (length r == 1 && first_passes is_notice r)
+
+      check_is : check_in s c ending (entries before) m ≡ check_at s p m
+      check_is = ap (λ b. check_at s (client_of s c b) m) (take_at before (came ∷ notice ∷ []) (length (entries before)) (sym (length-map before (λ x. x.entry)))) ∙ ap (λ q. check_at s q m) (steps_are s (empty_client c) before ∙ sym state)
+
       -- the end by the check
-      ended_by : (why : EndWhy) → check_at s p m ≡ Ends why → is_ended_by_check s c ((before ++ came ∷ []) ++ notice ∷ []) why ≡ true
-      ended_by why e = ap (λ l. is_ended_by_check s c l why) (append_assoc before (came ∷ []) (notice ∷ [])) ∙ some_at (λ b x r. passes (λ y. ends_for why (check_at s (client_of s c b) y)) (in_message x.entry.what) && (length r == 1 && first_passes is_notice (entries r))) [] before came (notice ∷ []) (both (ends_for why (check_at s (client_of s c before) m)) _ (ap (λ q. ends_for why (check_at s q m)) (steps_are s (empty_client c) before ∙ sym state) ∙ ap (ends_for why) e ∙ eqb_same (why_number why)) refl)
+      ended_by : (why : EndWhy) → check_at s p m ≡ Ends why → is_ended_by_check (check_in s c ((before ++ came ∷ []) ++ notice ∷ [])) (entries ((before ++ came ∷ []) ++ notice ∷ [])) why ≡ true
+      ended_by why e = ap (λ l. is_ended_by_check (check_in s c l) (entries l) why) (append_assoc before (came ∷ []) (notice ∷ [])) ∙ ap (some_split_from (ends_here why) []) (map-append (λ x. x.entry) before (came ∷ notice ∷ [])) ∙ some_at (ends_here why) [] (entries before) came.entry (notice.entry ∷ []) (both (ends_for why (check_in s c ending (entries before) m)) _ (ap (ends_for why) (check_is ∙ e) ∙ eqb_same (why_number why)) refl)
 
       check_causes : (why : EndWhy) → check_at s p m ≡ Ends why → is_check_reason why ≡ true → has_gone_cause s c ((before ++ came ∷ []) ++ notice ∷ []) why ≡ true
       check_causes ZeroId e h = ended_by ZeroId e

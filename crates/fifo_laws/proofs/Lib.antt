@@ -3,4 +3,3 @@ pub mod Quiet
 pub mod Sents
 mod Unanswered
 mod SentOnce
-mod Numbers

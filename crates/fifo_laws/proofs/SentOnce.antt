@@ -189,4 +189,4 @@ module _ (s : Settings) (F : Family) (marked : PartName → List Marked) (h : Jo
       by false e k ih false z = few_last op (sendings u (F.connection u)) (sendings_at F us) (others u z) (ih k)
 
 pub sent_once : FifoSentOnce
-sent_once s F marked apart h = all_always (is_sent_once F) (all_operations F) (λ o. few_at s F marked h o.name F.connections apart)
+sent_once s F marked whole h = all_always (is_sent_once F) (all_operations F) (λ o. few_at s F marked h o.name F.connections whole.connections_once)

@@ -5,12 +5,7 @@
 //! made them.
 #![tactic(auto)]
 
-ghost use Rattle.fifo_laws.specs.Laws.{ConnectionsOnce, FifoSentOnce, FifoUnanswered};
-
-/// The family of a journal names each of its connections once.
-pub fn a_journal_names_each_connection_once()
-    ensures { ConnectionsOnce }
-{}
+ghost use Rattle.fifo_laws.specs.Laws.{FifoSentOnce, FifoUnanswered};
 
 /// An operation is sent to one upstream at most, and there once.
 pub fn an_operation_is_sent_once()

@@ -53,7 +53,7 @@ either false b true d f g h = refl
 either false b false d f g h = g h
 
 -- a prefix stays one of a longer list
-prefix_grows : (xs ys zs : List (List ℕ)) → is_prefix xs ys ≡ true → is_prefix xs (ys ++ zs) ≡ true
+pub prefix_grows : (xs ys zs : List (List ℕ)) → is_prefix xs ys ≡ true → is_prefix xs (ys ++ zs) ≡ true
 prefix_grows [] ys zs h = refl
 prefix_grows (x ∷ xs) [] zs h = absurd (let bad : false ≡ true = h in cc)
 prefix_grows (x ∷ xs) (y ∷ ys) zs h = both (bytes_eq x y) _ (left (bytes_eq x y) _ h) (prefix_grows xs ys zs (right (bytes_eq x y) _ h))
@@ -66,7 +66,7 @@ refusal_grows _ [] (r ∷ q ∷ rs) zs h = absurd (let bad : false ≡ true = h 
 refusal_grows kind (a ∷ ys) (r ∷ q ∷ rs) zs h = both (bytes_eq r a && not (is_final_to kind a)) _ (left (bytes_eq r a && not (is_final_to kind a)) _ h) (refusal_grows kind ys (q ∷ rs) zs (right (bytes_eq r a && not (is_final_to kind a)) _ h))
 
 -- what is allowed stays so with more answers
-allowed_grows : (kind : List ℕ) (ys xs zs : List (List ℕ)) → allowed kind ys xs ≡ true → allowed kind (ys ++ zs) xs ≡ true
+pub allowed_grows : (kind : List ℕ) (ys xs zs : List (List ℕ)) → allowed kind ys xs ≡ true → allowed kind (ys ++ zs) xs ≡ true
 allowed_grows kind ys xs zs h = either (is_prefix xs ys) (is_prefix_and_own kind ys xs) _ _ (prefix_grows xs ys zs) (refusal_grows kind ys xs zs) h
 
 -- the answers of a longer list are those of the list, and more

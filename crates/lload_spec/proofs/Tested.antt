@@ -72,15 +72,16 @@ strict_tested s F = (
 
 pub settled_tested : SettledTested
 settled_tested s F = (
-  λ r. both _ _ (both _ _ (both _ _ (both _ _ (both _ _ (both _ _ r.dealt_with r.told_all) (r.told_upstream)) (r.states_heard)) (r.ends_heard)) (r.returns_heard)) (r.pauses_settled),
+  λ r. both _ _ (both _ _ (both _ _ (both _ _ (both _ _ (both _ _ (both _ _ r.dealt_with r.told_all) (r.told_upstream)) (r.states_heard)) (r.ends_heard)) (r.returns_heard)) (r.pauses_settled)) (r.leaves_told),
   λ h. record {
-    dealt_with = left _ _ (left _ _ (left _ _ (left _ _ (left _ _ (left _ _ h)))));
-    told_all = right _ _ (left _ _ (left _ _ (left _ _ (left _ _ (left _ _ h)))));
-    told_upstream = right _ _ (left _ _ (left _ _ (left _ _ (left _ _ h))));
-    states_heard = right _ _ (left _ _ (left _ _ (left _ _ h)));
-    ends_heard = right _ _ (left _ _ (left _ _ h));
-    returns_heard = right _ _ (left _ _ h);
-    pauses_settled = right _ _ h;
+    dealt_with = left _ _ (left _ _ (left _ _ (left _ _ (left _ _ (left _ _ (left _ _ h))))));
+    told_all = right _ _ (left _ _ (left _ _ (left _ _ (left _ _ (left _ _ (left _ _ h))))));
+    told_upstream = right _ _ (left _ _ (left _ _ (left _ _ (left _ _ (left _ _ h)))));
+    states_heard = right _ _ (left _ _ (left _ _ (left _ _ (left _ _ h))));
+    ends_heard = right _ _ (left _ _ (left _ _ (left _ _ h)));
+    returns_heard = right _ _ (left _ _ (left _ _ h));
+    pauses_settled = right _ _ (left _ _ h);
+    leaves_told = right _ _ h;
   },
 )
 

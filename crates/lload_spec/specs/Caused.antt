@@ -85,10 +85,6 @@ check_of s F o = first_check s F o.name.client o.before o.request
 abbrev pub is_checked_so : Check → (Check → Bool) → Operation → Bool
 is_checked_so found test o = length (outs o) == 1 && is_followed_up o.request o.behind found && test found
 
--- whether it is refused so, or as a Cancel answered so, by the check at its In
-abbrev pub is_refused_at_in : Settings → Family → Refusal → Operation → Bool
-is_refused_at_in s F which o = is_checked_so (check_of s F o) (refuses_with which) o
-
 -- whether an entry marks this answer for an operation that is live
 abbrev pub is_live_choice : Answer → Operation → List Entry → Entry → Bool
 is_live_choice answer o place e =
@@ -133,14 +129,33 @@ is_expired_at F o u = is_forwarded_to F o u && list_any (is_expired o.name) (F.c
 abbrev pub tells_no_identity : List ℕ → Bool
 tells_no_identity answer = tag_of answer == extended_response && not (tells_who answer)
 
+-- what came of an operation at its connection: whether it was lost, expired, or was asked in vain for its identity
+pub record Troubles : Type 0 where
+  pub lost : Bool
+  pub expired : Bool
+  pub unknown : Bool
+
+-- whether a refusal has its cause: a choice, what came of the operation at its connection, or the check at its In
+abbrev pub is_cause : Family → Troubles → Check → Operation → Refusal → Bool
+is_cause F came found o C1 = is_refused_by_choice F Busy C1 o
+is_cause F came found o C3 = is_refused_by_choice F Unavailable C3 o
+is_cause F came found o C4 = came.lost
+is_cause F came found o C5 = came.expired
+is_cause F came found o C9 = came.unknown
+is_cause F came found o which = is_checked_so found (refuses_with which) o
+
+-- what came of an operation by the lists of all parts
+abbrev pub troubles : Settings → Family → Operation → Troubles
+troubles s F o =
+    record {
+      lost = list_any (is_lost_at s F o) F.connections;
+      expired = list_any (is_expired_at F o) F.connections;
+      unknown = passes tells_no_identity (closing s F o);
+    }
+
 -- the cause of a refusal
 abbrev pub has_cause : Settings → Family → Operation → Refusal → Bool
-has_cause s F o C1 = is_refused_by_choice F Busy C1 o
-has_cause s F o C3 = is_refused_by_choice F Unavailable C3 o
-has_cause s F o C4 = list_any (is_lost_at s F o) F.connections
-has_cause s F o C5 = list_any (is_expired_at F o) F.connections
-has_cause s F o C9 = passes tells_no_identity (closing s F o)
-has_cause s F o which = is_refused_at_in s F which o
+has_cause s F o which = is_cause F (troubles s F o) (check_of s F o) o which
 
 -- whether a check is of a Cancel that ends the live operation with this identifier
 abbrev pub cancels_id : ℕ → Check → Bool
@@ -188,12 +203,12 @@ abbrev pub ends_for : EndWhy → Check → Bool
 ends_for why (Ends other) = same_why why other
 ends_for why _ = false
 
--- whether the last entry is the notice behind an In that the first check ends for this reason
-abbrev pub is_ended_by_check : Settings → Family → ℕ → List Entry → EndWhy → Bool
-is_ended_by_check s F c list why =
+-- whether the last entry is the notice behind an In that the check at its place ends for this reason
+abbrev pub is_ended_by_check : (List Entry → Message → Check) → List Entry → EndWhy → Bool
+is_ended_by_check found list why =
     some_split
     (λ place e behind.
-    passes (λ m. ends_for why (first_check s F c place m)) (in_message e.what)
+    passes (λ m. ends_for why (found place m)) (in_message e.what)
     && (length behind == 1 && first_passes is_notice behind))
     list
 
@@ -212,7 +227,7 @@ is_gone_cause ends place why = is_link_reason why
 
 -- the cause of a client's end
 abbrev pub has_gone_cause : Settings → Family → ℕ → List Entry → EndWhy → Bool
-has_gone_cause s F c place why = is_gone_cause (is_ended_by_check s F c place) place why
+has_gone_cause s F c place why = is_gone_cause (is_ended_by_check (first_check s F c) place) place why
 
 -- each Gone has its cause
 abbrev pub is_gone_caused : Settings → Family → ℕ → List Entry → Entry → Bool

@@ -143,8 +143,8 @@ is_drop_idle s F u place o =
     is_ended_by_client o && not (is_open_at s F u place o.name) && not (was_dropped_at F u place o.name)
 
 -- whether the operation that was chosen for an exchange holds the connection at this place
-abbrev pub holds_at : Settings → Family → ℕ → List Entry → OpName → Bool
-holds_at s F u place op = is_held_since s F (from_sent op (sendings u place))
+abbrev pub is_held_by : Settings → Family → ℕ → List Entry → OpName → Bool
+is_held_by s F u place op = is_held_since s F (from_sent op (sendings u place))
 
 -- whether an operation is a Bind that was answered for good, the one that was chosen for an exchange or a later one
 abbrev pub ends_exchange : Operation → Operation → Bool
@@ -166,8 +166,8 @@ leaves_exchange o place e =
 abbrev pub is_leave_idle : Settings → Family → ℕ → List Entry → Operation → Bool
 is_leave_idle s F u place o =
     some_entry (leaves_exchange o) (F.client o.name.client) && is_chosen_for F o u
-    && not (holds_at s F u place o.name)
-    && not (some_entry (λ before e. is_down_by Unfinished e && holds_at s F u before o.name) place)
+    && not (is_held_by s F u place o.name)
+    && not (some_entry (λ before e. is_down_by Unfinished e && is_held_by s F u before o.name) place)
 
 -- whether the Drop or the Leave of an operation may come to nothing at this place
 abbrev pub may_be_idle : Settings → Family → ℕ → List Entry → Operation → Bool

@@ -10,17 +10,18 @@ use Rattle.lload_names.specs.declared.names.Answer.TheVariants.{Go}
 use Rattle.lload_names.specs.declared.names.Refusal.{Refusal}
 use Rattle.lload_names.specs.declared.names.Refusal.TheVariants.{C4, C5, C9}
 use Rattle.lload_names.specs.declared.names.Letter.{Letter}
-use Rattle.lload_spec.specs.Lists.{each_entry, implies, agrees, is_prefix, where_there}
+use Rattle.lload_spec.specs.Lists.{each_entry, some_entry, implies, agrees, is_prefix, where_there}
 use Rattle.lload_spec.specs.Settings.{Settings, is_of_kind}
 use Rattle.lload_spec.specs.Journal.{Family}
 use Rattle.lload_spec.specs.Entries.{chosen, chose, is_up, is_retired, is_down}
 use Rattle.lload_spec.specs.Operations.{Operation, all_operations, is_of, is_live_at, is_ended_by_client, is_final_for, outs}
 use Rattle.lload_spec.specs.Answers.{Sending, sendings, of_operation, all_sendings, sendings_of, answers, final_answer, is_open}
-use Rattle.lload_spec.specs.Fifo.{is_refused_with, is_told_own}
+use Rattle.lload_spec.specs.Fifo.{is_refused_with, is_told_own, is_chosen_for}
 use Rattle.lload_spec.specs.Pauses.{pausing_at, holds_at}
 use Rattle.lload_spec.specs.News.{tells_ended, tells_returned, tells_up, tells_retired, tells_down, is_heard}
 use Rattle.lload_spec.specs.Over.{is_over_at, from_sent}
 use Rattle.lload_spec.specs.CausedUp.{holder}
+use Rattle.lload_spec.specs.Owed.{leaves_exchange, is_held_by}
 
 -- whether two lists of texts are one
 abbrev pub are_same : List (List ℕ) → List (List ℕ) → Bool
@@ -111,6 +112,12 @@ is_pause_settled s F u =
     implies (is_of_kind s Regular u && not (list_any is_down (F.connection u)))
     (agrees (holds_at s u (F.connection u)) (list_any (is_paused_by F u) F.clients))
 
+-- where the client left the exchange that an operation began, this holds no connection that was chosen for it
+abbrev pub is_leave_told : Settings → Family → Operation → Bool
+is_leave_told s F o =
+    implies (is_of Bind o && some_entry (leaves_exchange o) (F.client o.name.client))
+    (not (list_any (λ u. is_chosen_for F o u && is_held_by s F u (F.connection u) o.name) F.connections))
+
 -- each operation is dealt with
 abbrev pub each_dealt_with : Family → Bool
 each_dealt_with F = list_all (is_dealt_with F) (all_operations F)
@@ -139,11 +146,15 @@ each_return_heard F = list_all (λ c. each_entry (is_chosen_settled F c) (F.clie
 abbrev pub each_pause_settled : Settings → Family → Bool
 each_pause_settled s F = list_all (is_pause_settled s F) F.connections
 
+-- no client that left its exchange holds a connection
+abbrev pub each_leave_told : Settings → Family → Bool
+each_leave_told s F = list_all (is_leave_told s F) (all_operations F)
+
 -- whether nothing is left to be taken
 abbrev pub is_settled : Settings → Family → Bool
 is_settled s F =
     each_dealt_with F && each_told_all s F && each_told_upstream s F && each_state_heard s F && each_end_heard s F
-    && each_return_heard F && each_pause_settled s F
+    && each_return_heard F && each_pause_settled s F && each_leave_told s F
 
 -- nothing is left to be taken
 pub record Settled (s : Settings) (F : Family) : Type 0 where
@@ -154,3 +165,4 @@ pub record Settled (s : Settings) (F : Family) : Type 0 where
   pub ends_heard : IsTrue (each_end_heard s F)
   pub returns_heard : IsTrue (each_return_heard F)
   pub pauses_settled : IsTrue (each_pause_settled s F)
+  pub leaves_told : IsTrue (each_leave_told s F)

@@ -302,9 +302,10 @@ each_sent_rightly s F = list_all (of_operation F (is_sent_rightly s F)) (all_sen
 abbrev pub each_success_known : Settings → Family → Bool
 each_success_known s F = list_all (λ o. is_success_known s F o && is_unknown_rightly s F o) (all_operations F)
 
--- the connections of a family have places
+-- the connections that have entries have places
 abbrev pub each_connection_placed : Settings → Family → Bool
-each_connection_placed s F = list_all (λ u. is_some (place_at s u)) F.connections
+each_connection_placed s F =
+    list_all (λ u. implies (not (is_empty (F.connection u))) (is_some (place_at s u))) F.connections
 
 -- no operation is missed twice, nor where it was sent
 abbrev pub each_missed_once : Family → Bool

@@ -1,4 +1,4 @@
 pub mod Folds
 pub mod Joins
-mod Fits
+pub mod Fits
 mod Tested

@@ -23,7 +23,7 @@ use Rattle.lload_names.specs.declared.names.Letter.TheVariants.{Forward, Reply, 
 use Rattle.lload_spec.specs.Lists.{passes, first_passes, last_passes, each_entry, each_split, some_split, implies}
 use Rattle.lload_spec.specs.Settings.{Settings, is_kind}
 use Rattle.lload_spec.specs.Journal.{family, same_op}
-use Rattle.lload_spec.specs.Entries.{in_message, sent_message, own_message, got_message, expired_op, idle_op, gone_why, down_why, is_up, is_retired, is_down_by, is_link_reason, is_notice, is_own, is_expired, is_of_client, is_of_desk, is_of_connection}
+use Rattle.lload_spec.specs.Entries.{in_message, sent_message, own_message, got_message, expired_op, idle_op, gone_why, down_why, is_up, is_retired, is_down_by, is_link_reason, is_own, is_expired, is_of_client, is_of_desk, is_of_connection}
 use Rattle.lload_spec.specs.Operations.{Operation, operations, outs}
 use Rattle.lload_spec.specs.Answers.{sendings, asks_who}
 use Rattle.lload_spec.specs.Fifo.{allowed, is_refused_by_outs, is_canceled_by_outs, is_ended_once, has_own_outs}
@@ -31,7 +31,7 @@ use Rattle.lload_spec.specs.Right.{each_chosen_rightly}
 use Rattle.lload_spec.specs.Identifiers.{has_right_id}
 use Rattle.lload_spec.specs.OneEach.{is_bind_due, is_own_bind, is_named_once}
 use Rattle.lload_spec.specs.FirstCheck.{Check}
-use Rattle.lload_spec.specs.Caused.{is_followed_up, have_causes, refuses_with, answers_with, is_checked_so, is_canceled_by, same_refusal, is_choice_told, is_refused_by_choice, ends_for, is_gone_cause, is_late_caused, is_stall_caused, is_later}
+use Rattle.lload_spec.specs.Caused.{Troubles, is_followed_up, have_causes, is_cause, answers_with, is_checked_so, is_canceled_by, same_refusal, is_choice_told, is_ended_by_check, is_gone_cause, is_late_caused, is_stall_caused, is_later}
 use Rattle.lload_spec.specs.CausedUp.{is_missed_caused, exactly_behind, is_up_due, is_retirement_due, is_refused_own_bind, is_own_bind_due}
 use Rattle.lload_spec.specs.Strict.{has_place_in_client, has_place_in_desk, lives_as_connection, may_pass, got_kept_success}
 use Rattle.lload_spec.specs.BadMessages.{is_bad}
@@ -91,23 +91,30 @@ is_failure op which _ = false
 abbrev pub check_behind : Settings → ℕ → List Marked → ℕ → Message → Check
 check_behind s c list n m = check_at s (client_of s c (take n list)) m
 
+-- the first check of a message at a place of the list
+abbrev pub check_in : Settings → ℕ → List Marked → List Entry → Message → Check
+check_in s c list place m = check_behind s c list (length place) m
+
 -- the check at an operation's In
 abbrev pub check_of : Settings → List Marked → Operation → Check
-check_of s list o = check_behind s o.name.client list (length o.before) o.request
+check_of s list o = check_in s o.name.client list o.before o.request
+
+-- what came of an operation at its connection, by the letters that were taken
+abbrev pub troubles : Settings → List Marked → Operation → Troubles
+troubles s list o =
+    record {
+      lost = list_any (has_letter (is_failure o.name C4)) list;
+      expired = list_any (has_letter (is_failure o.name C5)) list;
+      unknown = list_any (has_letter (is_failure o.name C9)) list && asks_who s o;
+    }
 
 -- the cause of a refusal: a choice, a letter of a connection, or the first check
 abbrev pub has_cause : Settings → List Marked → Operation → Refusal → Bool
-has_cause s list o C1 = is_refused_by_choice (family (entries list)) Busy C1 o
-has_cause s list o C3 = is_refused_by_choice (family (entries list)) Unavailable C3 o
-has_cause s list o C4 = list_any (has_letter (is_failure o.name C4)) list
-has_cause s list o C5 = list_any (has_letter (is_failure o.name C5)) list
-has_cause s list o C9 = list_any (has_letter (is_failure o.name C9)) list && asks_who s o
-has_cause s list o which = is_checked_so (check_of s list o) (refuses_with which) o
+has_cause s list o which = is_cause (family (entries list)) (troubles s list o) (check_of s list o) o which
 
 -- the cause of an answer to a Cancel
 abbrev pub has_cancel_cause : Settings → List Marked → Operation → CancelAnswer → Bool
-has_cancel_cause s list o C13 =
-    some_split (is_canceled_by (λ place m. check_behind s o.name.client list (length place) m) o) (entries list)
+has_cancel_cause s list o C13 = some_split (is_canceled_by (check_in s o.name.client list) o) (entries list)
 has_cancel_cause s list o which = is_checked_so (check_of s list o) (answers_with which) o
 
 -- each operation that got an answer of the proxy's own has its cause
@@ -121,18 +128,10 @@ abbrev pub is_checked : Settings → ClientState → Marked → List Marked → 
 is_checked s p m behind =
     elim (in_message m.entry.what) [ None ↦ true | Some x ↦ is_followed_up x (entries behind) (check_at s p x) ]
 
--- whether the last two entries are an In that the first check ends for this reason, and the notice
-abbrev pub is_ended_by_check : Settings → ℕ → List Marked → EndWhy → Bool
-is_ended_by_check s c list why =
-    some_split
-    (λ before m behind.
-    passes (λ x. ends_for why (check_at s (client_of s c before) x)) (in_message m.entry.what)
-    && (length behind == 1 && first_passes is_notice (entries behind)))
-    list
-
 -- the cause of a client's end
 abbrev pub has_gone_cause : Settings → ℕ → List Marked → EndWhy → Bool
-has_gone_cause s c before why = is_gone_cause (is_ended_by_check s c before) (entries before) why
+has_gone_cause s c before why =
+    is_gone_cause (is_ended_by_check (check_in s c before) (entries before)) (entries before) why
 
 abbrev pub is_gone_caused : Settings → ℕ → List Marked → Marked → Bool
 is_gone_caused s c before m = elim (gone_why m.entry.what) [ None ↦ true | Some why ↦ has_gone_cause s c before why ]

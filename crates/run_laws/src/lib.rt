@@ -54,7 +54,6 @@ pub fn operations_are_sent_once_or_answered_by_the_proxy_in_runs()
 {
     parts_are_joined_in_runs();
     lload_spec::the_family_of_a_journal_is_whole();
-    fifo_laws::a_journal_names_each_connection_once();
     fifo_laws::an_operation_is_sent_once();
     fifo_laws::an_operation_that_was_not_sent_is_answered_by_the_proxy_alone();
 }

@@ -10,7 +10,7 @@ use Rattle.lload_spec.specs.Identifiers.{each_id_right}
 use Rattle.lload_spec.specs.OneEach.{each_holder_alone, each_own_reasoned}
 use Rattle.lload_spec.specs.Caused.{each_refusal_caused, each_check_followed, each_busy_told, each_unavailable_told, each_gone_caused, each_late_caused, each_stall_caused, moments_never_fall, each_entry_placed}
 use Rattle.lload_spec.specs.CausedUp.{each_up_due, each_retirement_due, each_own_bind_end_due, each_expired_due, each_missed_caused, each_bad_told, each_down_caused, each_bind_expiry_told}
-use Rattle.lload_spec.specs.Settled.{each_dealt_with, each_told_all, each_told_upstream, each_state_heard, each_end_heard, each_return_heard, each_pause_settled}
+use Rattle.lload_spec.specs.Settled.{each_dealt_with, each_told_all, each_told_upstream, each_state_heard, each_end_heard, each_return_heard, each_pause_settled, each_leave_told}
 use Rattle.lload_spec.specs.Identity.{each_sent_identified}
 use Rattle.lload_spec.specs.Binding.{each_asked_rightly}
 use Rattle.lload_names.specs.declared.names.What.TheVariants.{In, Chosen, Out, Late, Sent, Own, Missed, Asked, Chose, Heard, Replanned, Arrived, Retired}
@@ -57,7 +57,7 @@ caused_clauses s F =
 abbrev pub settled_clauses : Settings → Family → List Bool
 settled_clauses s F =
     each_dealt_with F ∷ each_told_all s F ∷ each_told_upstream s F ∷ each_state_heard s F ∷ each_end_heard s F
-    ∷ each_return_heard F ∷ each_pause_settled s F ∷ []
+    ∷ each_return_heard F ∷ each_pause_settled s F ∷ each_leave_told s F ∷ []
 
 -- the clauses of the six promises, with those of what is promised beside them, and with those of rest
 abbrev pub good_clauses : Settings → Family → List Bool

@@ -5,6 +5,6 @@ use Rattle.run_laws.proofs.operations_are_sent_once_or_answered_by_the_proxy_in_
 
 pub returns : goal.returns
 returns c = record {
-  sent_once = λ s ms k. c.an_operation_is_sent_once.ensures s (family_of_run s ms) (list_in (world_of s ms)) (c.a_journal_names_each_connection_once.ensures (journal_of (world_of s ms))) (c.parts_are_joined_in_runs.ensures s ms k);
+  sent_once = λ s ms k. c.an_operation_is_sent_once.ensures s (family_of_run s ms) (list_in (world_of s ms)) (c.the_family_of_a_journal_is_whole.ensures (journal_of (world_of s ms))) (c.parts_are_joined_in_runs.ensures s ms k);
   unanswered = λ s ms k. c.an_operation_that_was_not_sent_is_answered_by_the_proxy_alone.ensures s (family_of_run s ms) (list_in (world_of s ms)) (c.the_family_of_a_journal_is_whole.ensures (journal_of (world_of s ms))) (c.parts_are_joined_in_runs.ensures s ms k);
 }
