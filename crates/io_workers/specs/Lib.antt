@@ -1,0 +1,4 @@
+pub mod Due
+pub mod Numbers
+pub mod Tree
+pub mod TreeFalls
