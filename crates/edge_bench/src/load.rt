@@ -1,9 +1,12 @@
 use crate::serve::here;
-use lload_links::{Connect, Harbour, Link, LinkRead, LinkWrite, Made, Poller, Ready, Watch, Watched, Woke};
+use lload_links::{
+    Connect, Harbour, Link, LinkRead, LinkWrite, Made, Poller, Ready, Watch, Watched, Woke,
+};
 use net_links::{TcpHarbour, TcpLink, TcpPoller, TcpWatch};
 use std::alloc::Global;
-use std::io::{Clock, Print};
+use std::io::Print;
 use std::net::Net;
+use std::rt::Clock;
 use std::sync::Wait;
 use std::time::{Duration, Instant};
 use std::{io, thread};
@@ -13,6 +16,7 @@ const REQUEST: usize = 64;
 
 // The most bytes of one read or write, and the most links that one wait tells of.
 const PIECE: usize = 16_384;
+
 const MOST: usize = 256;
 
 // For how many milliseconds nothing may come before a load gives up.
@@ -153,13 +157,24 @@ fn run<R: Wait>(
 }
 
 /// Loads a server, and prints how many requests were answered and in how many milliseconds.
-pub fn load<R: Net + Wait + Clock + Print>(rt: &R, alloc: Global, plan: &Load) -> io::Result<()> {
+pub fn run_load<R: Net + Wait + Clock + Print>(
+    rt: &R,
+    alloc: Global,
+    plan: &Load,
+) -> io::Result<()> {
     let mut harbour = TcpHarbour::new(rt, alloc);
     let Made::Both { mut poller, watch } = harbour.poller(alloc, MOST) else {
         return Err(failed("no poller"));
     };
     let to_send = (plan.outstanding as usize).saturating_mul(REQUEST);
-    let mut clients = connect_all(alloc, &mut harbour, &watch, plan.port, plan.clients, to_send)?;
+    let mut clients = connect_all(
+        alloc,
+        &mut harbour,
+        &watch,
+        plan.port,
+        plan.clients,
+        to_send,
+    )?;
     let mut scratch = new_scratch(alloc)?;
     let start = Instant::now(rt)?;
     let done = run(rt, &mut poller, &mut clients, &mut scratch, plan.operations)?;
@@ -188,7 +203,12 @@ pub fn idle<R: Net + Clock + Print>(
 }
 
 /// Connects and closes so many links, one after another, each with one request and its answer; prints how many.
-pub fn churn<R: Net + Wait + Print>(rt: &R, alloc: Global, port: u16, links: u32) -> io::Result<()> {
+pub fn churn<R: Net + Wait + Print>(
+    rt: &R,
+    alloc: Global,
+    port: u16,
+    links: u32,
+) -> io::Result<()> {
     let mut harbour = TcpHarbour::new(rt, alloc);
     let Made::Both { mut poller, watch } = harbour.poller(alloc, MOST) else {
         return Err(failed("no poller"));
@@ -198,9 +218,10 @@ pub fn churn<R: Net + Wait + Print>(rt: &R, alloc: Global, port: u16, links: u32
     for _ in 0..links {
         let mut clients = connect_all(alloc, &mut harbour, &watch, port, 1, REQUEST)?;
         done = done.saturating_add(run(rt, &mut poller, &mut clients, &mut scratch, 1)?);
-        for mut client in clients {
-            client.link.close();
-            harbour.back(client.link);
+        for client in clients {
+            let Client { mut link, .. } = client;
+            link.close();
+            harbour.back(link);
         }
     }
     println!(rt; "{done}")?;

@@ -13,24 +13,31 @@ mod load;
 mod serve;
 mod session;
 
-use load::{Load, churn, idle, load};
+use load::{Load, churn, idle, run_load};
 use serve::serve;
 use std::{env, io};
 
 fn main(rt: HostRuntime) -> io::Result<()> {
     let mut numbers = Vec::new(rt.alloc());
-    let words = env::args(&rt)?;
-    for word in &words {
+    let mut words = Vec::new(rt.alloc());
+    for word in env::args(&rt)? {
         if let Ok(number) = word.as_str().parse::<u32>() {
             numbers.push(number)?;
         }
+        words.push(word)?;
     }
     let Some(job) = words.get(1) else {
         return Ok(());
     };
     match (job.as_str(), numbers.as_slice()) {
         ("forward", [port, workers, server]) => {
-            serve(&rt, rt.alloc(), port_of(*port), *workers, Some(port_of(*server)))
+            serve(
+                &rt,
+                rt.alloc(),
+                port_of(*port),
+                *workers,
+                Some(port_of(*server)),
+            )
         }
         ("echo", [port, workers]) => serve(&rt, rt.alloc(), port_of(*port), *workers, None),
         ("load", [port, clients, outstanding, operations]) => {
@@ -40,7 +47,7 @@ fn main(rt: HostRuntime) -> io::Result<()> {
                 outstanding: *outstanding,
                 operations: *operations,
             };
-            load(&rt, rt.alloc(), &plan)
+            run_load(&rt, rt.alloc(), &plan)
         }
         ("idle", [port, clients, ms]) => idle(&rt, rt.alloc(), port_of(*port), *clients, *ms),
         ("churn", [port, links]) => churn(&rt, rt.alloc(), port_of(*port), *links),

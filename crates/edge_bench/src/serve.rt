@@ -1,18 +1,21 @@
 ghost use Rattle.std.specs.Prelude.{◌≤◌, ◌<◌};
 
 use crate::session::{End, Session, Side, Turn};
-use lload_links::{Accept, Address, Bell, Connect, Harbour, Link, Listen, Made, Poller, Told, Watch, Watched, Woke};
+use lload_links::{
+    Accept, Address, Bell, Connect, Harbour, Link, Listen, Made, Poller, Told, Watch, Watched, Woke,
+};
 use net_links::{TcpHarbour, TcpLink, TcpPoller, TcpWatch};
 use std::alloc::Global;
-use std::io;
 use std::net::Net;
 use std::sync::{Mutex, Wait};
-use std::thread;
 use std::thread::Threads;
+use std::{io, thread};
 
 // The most links that one wait tells of, the most bytes that one read takes, and the most clients accepted at once.
 const MOST: usize = 256;
+
 const PIECE: usize = 65_536;
+
 const ACCEPTS: u32 = 1024;
 
 type Slots = boxcar::Vec<Mutex<Option<Session>>>;
@@ -176,9 +179,10 @@ fn stand_in_front<R: Net + Wait>(
             std::mem::replace(&mut *ended, Vec::new(alloc))
         };
         for (number, session) in ended {
-            harbour.back(session.client.link);
-            if let Some(server) = session.server {
-                harbour.back(server.link);
+            let Session { client, server } = session;
+            harbour.back(client.into_link());
+            if let Some(server) = server {
+                harbour.back(server.into_link());
             }
             front.free.push(number)?;
         }

@@ -42,6 +42,12 @@ impl End {
         }
     }
 
+    /// The link. What waited is given up.
+    pub fn into_link(self) -> TcpLink {
+        let End { link, waits: _ } = self;
+        link
+    }
+
     /// Writes what waits, as far as the link takes it.
     fn flush(&mut self) -> Turn {
         if self.waits.is_empty() {
