@@ -1,4 +1,0 @@
-pub mod Due
-pub mod Numbers
-pub mod Tree
-pub mod TreeFalls
