@@ -1,0 +1,4 @@
+pub mod Stays
+pub mod Letters
+pub mod Forwards
+mod Taken
