@@ -1,0 +1,2 @@
+//! Who a client is.
+#![tactic(auto)]
