@@ -1,3 +1,5 @@
 pub mod Finals
 pub mod Bound
 pub mod BoundOut
+pub mod Tame
+pub mod BoundTurns
