@@ -32,7 +32,7 @@ use Rattle.client_answer_laws.proofs.Only.{out_added, out_other}
 use Rattle.identity_laws.proofs.Finals.{bind_stays, last_all, last_any, last_passes_it, none_got, got_more, is_timely}
 use Rattle.identity_laws.proofs.Bound.{Bound, BindKnown, BindSays, IsBindOf, IsUntaken, RowsFrom, rows_same, rows_filtered, says_later, untaken_stays, other_moment}
 
-each_end : {A : Type 0} (P : A → Type 0) (xs : List A) (y : A) → last xs ≡ Some y → Each P xs → P y
+pub each_end : {A : Type 0} (P : A → Type 0) (xs : List A) (y : A) → last xs ≡ Some y → Each P xs → P y
 each_end P [] y e h = absurd (let bad : None ≡ Some y = e in cc)
 each_end P (x ∷ []) y e h = let same : x ≡ y = cc in subst P same h.0
 each_end P (x ∷ z ∷ xs) y e h = each_end P (z ∷ xs) y e h.1

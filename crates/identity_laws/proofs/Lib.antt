@@ -3,3 +3,5 @@ pub mod Bound
 pub mod BoundOut
 pub mod Tame
 pub mod BoundTurns
+pub mod Letters
+pub mod BoundCases
