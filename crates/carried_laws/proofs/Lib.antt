@@ -2,3 +2,5 @@ pub mod Stays
 pub mod Letters
 pub mod Forwards
 mod Taken
+pub mod BindReplies
+pub mod TurnHeads

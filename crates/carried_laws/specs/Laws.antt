@@ -1,15 +1,19 @@
 -- What a Forward says of its operation.
-use Rattle.std.specs.Prelude.{Bool, true, ◌&&◌, List, IsTrue}
-use Rattle.std.specs.List.{list_all}
+use Rattle.std.specs.Prelude.{ℕ, Bool, true, ◌&&◌, List, Option, IsTrue}
+use Rattle.std.specs.List.{list_all, list_any}
 use Rattle.ldap_spec.specs.Kinds.{kind_of, same_kind}
+use Rattle.ldap_spec.specs.Responses.{has_code, who_value}
+use Rattle.ldap_spec.specs.Tags.{success}
+use Rattle.lload_names.specs.Same.{same_who}
 use Rattle.lload_names.specs.declared.names.Letter.{Letter}
-use Rattle.lload_names.specs.declared.names.Letter.TheVariants.{Forward}
+use Rattle.lload_names.specs.declared.names.Letter.TheVariants.{Forward, Reply}
 use Rattle.lload_names.specs.declared.names.OpKind.{OpKind}
+use Rattle.lload_names.specs.declared.names.OpName.{OpName}
 use Rattle.lload_names.specs.declared.names.PartName.{PartName}
-use Rattle.lload_spec.specs.Answers.{asks_who}
-use Rattle.lload_spec.specs.Journal.{Family}
-use Rattle.lload_spec.specs.Lists.{agrees, passes, where_there}
-use Rattle.lload_spec.specs.Operations.{Operation, operation}
+use Rattle.lload_spec.specs.Answers.{Sending, asks_who, closing_at}
+use Rattle.lload_spec.specs.Journal.{Family, same_op}
+use Rattle.lload_spec.specs.Lists.{agrees, implies, passes, where_there}
+use Rattle.lload_spec.specs.Operations.{Operation, operation, is_final_for}
 use Rattle.lload_spec.specs.Settings.{Settings}
 use Rattle.part_spec.specs.Marked.{Marked}
 use Rattle.joined_laws.specs.Joined.{Joined}
@@ -32,3 +36,19 @@ abbrev pub ForwardsAreRight : Type 0
 ForwardsAreRight =
     (s : Settings) (F : Family) (marked : PartName → List Marked) → Joined s F marked → (p : PartName)
     → IsTrue (are_forwards_right s F (marked p))
+
+-- whether a Sent of this operation is settled by an answer that tells this identity
+abbrev pub is_settled_so : Settings → OpName → Option (List ℕ) → Operation → Sending → Bool
+is_settled_so s op who o sent =
+    same_op op sent.op && passes (λ answer. same_who who (who_value answer)) (closing_at s o sent)
+
+-- whether an answer tells the identity that the family says: where it is a success of a Bind whose identity is asked
+-- for, that of the answer which settles the Bind at its connection
+abbrev pub tells_rightly : Settings → OpName → List ℕ → Option (List ℕ) → List Sending → Operation → Bool
+tells_rightly s op rest who sents o =
+    implies (asks_who s o && (is_final_for o.request rest && has_code success rest))
+    (list_any (is_settled_so s op who o) sents)
+
+abbrev pub is_reply_right : Settings → Family → List Sending → Letter → Bool
+is_reply_right s F sents (Reply op rest is_last who) = passes (tells_rightly s op rest who sents) (operation F op)
+is_reply_right s F sents _ = true
