@@ -4,3 +4,5 @@ pub mod Forwards
 mod Taken
 pub mod BindReplies
 pub mod TurnHeads
+pub mod Replies
+pub mod BindWalk
