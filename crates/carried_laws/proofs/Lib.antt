@@ -6,3 +6,4 @@ pub mod BindReplies
 pub mod TurnHeads
 pub mod Replies
 pub mod BindWalk
+pub mod RegularReplies
