@@ -7,3 +7,4 @@ pub mod TurnHeads
 pub mod Replies
 pub mod BindWalk
 pub mod RegularReplies
+mod Identities
