@@ -1,5 +1,5 @@
 -- What is proved of every run of the parts, as statements.
-use Rattle.std.specs.Prelude.{List, IsTrue}
+use Rattle.std.specs.Prelude.{◌≡◌, List, [], IsTrue}
 use Rattle.lload_spec.specs.Settings.{Settings}
 use Rattle.lload_spec.specs.Journal.{Family, family}
 use Rattle.lload_spec.specs.Fifo.{each_sent_once, each_unanswered}
@@ -8,6 +8,7 @@ use Rattle.part_spec.specs.World.{journal_of, list_in}
 use Rattle.link_laws.specs.Moves.{end_rightly}
 use Rattle.promise_laws.specs.OneList.{Shared, OfOneList}
 use Rattle.joined_laws.specs.Joined.{Joined, OfSeveralLists}
+use Rattle.settled_laws.specs.Laws.{OfRest, Rested}
 
 -- the family of the journal of a run
 abbrev pub family_of_run : Settings → List PartMove → Family
@@ -44,3 +45,14 @@ RunsKeepUnanswered =
 abbrev pub RunsSendOnce : Type 0
 RunsSendOnce =
     (s : Settings) (ms : List PartMove) → IsTrue (end_rightly ms) → IsTrue (each_sent_once (family_of_run s ms))
+
+-- where nothing waits, what was given was taken, and so it was heard
+abbrev pub RunsAreRested : Type 0
+RunsAreRested =
+    (s : Settings) (ms : List PartMove) → IsTrue (end_rightly ms) → (world_of s ms).letters ≡ []
+    → Rested s (family_of_run s ms) (list_in (world_of s ms))
+
+abbrev pub RunsHeardAtRest : Type 0
+RunsHeardAtRest =
+    (s : Settings) (ms : List PartMove) → IsTrue (end_rightly ms) → (world_of s ms).letters ≡ []
+    → OfRest (family_of_run s ms)

@@ -5,7 +5,7 @@
 //! fitness.
 #![tactic(auto)]
 
-ghost use Rattle.run_laws.specs.Runs.{RunsAreShared, RunsAreJoined, RunsKeepOneList, RunsKeepSeveralLists, RunsKeepUnanswered, RunsSendOnce};
+ghost use Rattle.run_laws.specs.Runs.{RunsAreShared, RunsAreJoined, RunsKeepOneList, RunsKeepSeveralLists, RunsKeepUnanswered, RunsSendOnce, RunsAreRested, RunsHeardAtRest};
 
 /// In every run each part's list keeps the part's whole share of the promises: each letter was fit where it was taken.
 pub fn parts_keep_their_shares_in_runs()
@@ -56,4 +56,20 @@ pub fn operations_are_sent_once_or_answered_by_the_proxy_in_runs()
     lload_spec::the_family_of_a_journal_is_whole();
     fifo_laws::an_operation_is_sent_once();
     fifo_laws::an_operation_that_was_not_sent_is_answered_by_the_proxy_alone();
+}
+
+/// Where nothing waits in a run, what each part took of another is all that this one gave it.
+pub fn parts_are_rested_in_runs()
+    ensures { RunsAreRested }
+{
+    parts_are_joined_in_runs();
+    fitness_laws::parts_are_linked();
+}
+
+/// So the desk heard each state of each connection, and that each choice which came too late was returned.
+pub fn what_was_given_was_heard_in_runs()
+    ensures { RunsHeardAtRest }
+{
+    parts_are_rested_in_runs();
+    settled_laws::what_was_given_was_heard();
 }

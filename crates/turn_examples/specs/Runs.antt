@@ -13,7 +13,6 @@ use Rattle.lload_spec.specs.Settings.{Settings}
 use Rattle.lload_spec.specs.Verdict.{keeps_strict, is_settled}
 use Rattle.part_spec.specs.Inputs.{letter_of}
 use Rattle.part_spec.specs.World.{World, behind, empty_world, is_between, journal_of, lowest_waiting, severs, turn_of, waiting, without_first}
-use Rattle.part_examples.specs.Shares.{are_all_taken}
 use Rattle.wrong_examples.specs.Alone.{resting_clauses}
 
 -- what each part makes of an input
@@ -100,10 +99,3 @@ are_refusing all clauses w =
 abbrev pub breaks : Settings → List Move → Turning → List (Family → Bool) → Bool
 breaks s script wrong clauses =
     keeps_promises s (run turn_of s script) && are_refusing (resting_clauses s) clauses (run wrong s script)
-
--- whether all promises are kept with the wrong turns too, and each of these parts took all that the lists of the others
--- give it with the right ones alone
-abbrev pub breaks_links : Settings → List PartName → List Move → Turning → Bool
-breaks_links s ps script wrong =
-    keeps_promises s (run turn_of s script) && are_all_taken s ps (run turn_of s script)
-    && keeps_promises s (run wrong s script) && not (are_all_taken s ps (run wrong s script))

@@ -9,7 +9,7 @@ ghost use Rattle.lload_spec.specs.Fifo.{each_answered, each_ended_once, each_out
 ghost use Rattle.lload_spec.specs.Identifiers.{each_id_right};
 ghost use Rattle.lload_spec.specs.Identity.{each_sent_identified};
 ghost use Rattle.lload_spec.specs.OneEach.{each_holder_alone, each_own_reasoned};
-ghost use Rattle.lload_spec.specs.Settled.{each_dealt_with, each_end_heard, each_pause_settled, each_return_heard, each_state_heard, each_told_all, each_told_upstream};
+ghost use Rattle.lload_spec.specs.Settled.{each_dealt_with, each_end_heard, each_leave_told, each_pause_settled, each_return_heard, each_state_heard, each_told_all, each_told_upstream};
 ghost use Rattle.lload_spec.specs.Strict.{each_client_lives, each_connection_lives, each_pause_owed, each_success_known};
 ghost use Rattle.lload_spec.specs.Plain.{plain};
 ghost use Rattle.spec_examples.specs.Configurations.{binding_itself, in_turn_anew, proxying, reloading, restricting_anew, two_tiers, writing_anew, impatient};
@@ -20,7 +20,7 @@ ghost use Rattle.wrong_examples.specs.Connections.{expired_not_abandoned, expire
 ghost use Rattle.wrong_examples.specs.Deletes.{answer_under_upstream_identifier, drained_early, gone_for_no_reason, moment_falls, out_at_connection, out_at_desk, retired_early, sent_unchosen, stray_taken};
 ghost use Rattle.wrong_examples.specs.Features.{bound_kept, bound_moved, freed_passed_over, got_while_paused, missed_end_unheard, one_still_stalled, order_kept, own_again, paused_behind_loss_for_none, set_free, stalled_twice, told_canceled_kept, who_again};
 ghost use Rattle.wrong_examples.specs.Journals.{answer_not_told, chosen_twice, end_unheard, entries_after_abandon, forged_entry, late_choice_sent, loss_not_told, loss_unheard, missed_not_told, other_kind_told, request_behind_end, return_unheard};
-ghost use Rattle.wrong_examples.specs.Refusals.{delete_left_running, unknown_succeeds};
+ghost use Rattle.wrong_examples.specs.Refusals.{delete_left_running, exchange_left_open, unknown_succeeds};
 
 /// Refused alone by what is said of answers.
 pub fn fifo_clauses_refuse_alone()
@@ -98,6 +98,7 @@ pub fn rest_clauses_refuse_alone()
     ensures end_unheard { IsTrue (refuses_alone (each_end_heard plain) (resting_clauses plain) end_unheard) }
     ensures return_unheard { IsTrue (refuses_alone each_return_heard (resting_clauses plain) return_unheard) }
     ensures never_read_again { IsTrue (refuses_alone (each_pause_settled plain) (resting_clauses plain) never_read_again) }
+    ensures exchange_left_open { IsTrue (refuses_alone (each_leave_told proxying) (resting_clauses proxying) exchange_left_open) }
     ensures missed_end_unheard { IsTrue (refuses_alone (each_end_heard proxying) (resting_clauses proxying) missed_end_unheard) }
 {}
 
