@@ -35,17 +35,17 @@ use Rattle.part_spec.specs.ClientState.{ClientState, ClientRow, empty_client, st
 use Rattle.part_spec.specs.ClientTurn.{canceled, noticed, refused, whats_by, whats_for}
 use Rattle.part_spec.specs.Fit.{ledger_behind as behind}
 use Rattle.part_spec.specs.Marked.{Marked, Taken, entries}
-use Rattle.client_laws.specs.Turns.{client_event, client_list}
+use Rattle.client_laws.specs.Turns.{client_event}
 use Rattle.client_laws.proofs.ClientCancels.{Named, cancel_named}
 use Rattle.client_laws.proofs.ClientClauses.{Keeps, nothing_kept}
 use Rattle.client_laws.proofs.ClientEnds.{event_once}
 use Rattle.client_laws.proofs.ClientOuts.{EndsOnce}
-use Rattle.client_laws.proofs.ClientTurns.{client_turn_of, free_by, is_end, steps_are, client_live, behind_both}
+use Rattle.client_laws.proofs.Matches.{Matches}
+use Rattle.client_laws.proofs.ClientTurns.{client_turn_of, free_by, is_end, steps_are, behind_both}
 use Rattle.client_share_laws.proofs.ClientCases.{Cases, event_case, taken}
-use Rattle.client_share_laws.proofs.ClientKept.{kept_always}
 use Rattle.client_share_laws.proofs.Whats.{refused_all, canceled_all, choice_all}
 use Rattle.client_answer_laws.proofs.Owns.{of_cancel, is_of_cancel, cancel_no_bind}
-use Rattle.identity_laws.specs.Laws.{is_identity_right, are_identities_right}
+use Rattle.carried_laws.specs.Laws.{is_identity_right, are_identities_right}
 use Rattle.identity_laws.proofs.Finals.{Timely, timely}
 use Rattle.identity_laws.proofs.Bound.{Bound, BindKnown, BindSays}
 use Rattle.identity_laws.proofs.BoundOut.{WhoRight}
@@ -127,12 +127,12 @@ module _ (s : Settings) (F : Family) (c : ℕ) (before : List Marked) (p : Clien
   event_bound x = event_case s p Turn bound_cases x
 
 -- What is kept behind each turn.
-record Knows (s : Settings) (F : Family) (c : ℕ) (before : List Marked) (p : ClientState) : Type 0 where
-  state : p ≡ behind (step_client s) (empty_client c) before
-  once : EndsOnce c (entries before)
-  bound : (rest_of : List Entry) → F.client c ≡ entries before ++ rest_of → are_identities_right s F before ≡ true → Bound s F c (entries before) p
+pub record Knows (s : Settings) (F : Family) (c : ℕ) (before : List Marked) (p : ClientState) : Type 0 where
+  pub state : p ≡ behind (step_client s) (empty_client c) before
+  pub once : EndsOnce c (entries before)
+  pub bound : (rest_of : List Entry) → F.client c ≡ entries before ++ rest_of → are_identities_right s F before ≡ true → Bound s F c (entries before) p
 
-knows_more : (s : Settings) (F : Family) (c : ℕ) (before : List Marked) (p : ClientState) (x : Event) → Keeps s c before p → Knows s F c before p → Knows s F c (before ++ made (client_event s) p x) (behind (step_client s) p (made (client_event s) p x))
+pub knows_more : (s : Settings) (F : Family) (c : ℕ) (before : List Marked) (p : ClientState) (x : Event) → Keeps s c before p → Knows s F c before p → Knows s F c (before ++ made (client_event s) p x) (behind (step_client s) p (made (client_event s) p x))
 knows_more s F c before p x keeps h =
     record {
       state = ap (λ q. behind (step_client s) q turn) h.state ∙ sym (behind_both s (empty_client c) before turn);
@@ -153,30 +153,32 @@ knows_more s F c before p x keeps h =
     once : EndsOnce c (entries before ++ entries turn)
     once = event_once s c (entries before) p x keeps.lives h.once
 
--- who a client is behind each list of its turns, where its letters told the identities rightly
-pub client_bound : (s : Settings) (F : Family) (c : ℕ) (xs : List Event) (rest_of : List Entry) → F.client c ≡ entries (client_list s c xs) ++ rest_of → are_identities_right s F (client_list s c xs) ≡ true → Bound s F c (entries (client_list s c xs)) (client_of s c (client_list s c xs))
-client_bound s F c xs = kept_always s c (Knows s F c) (λ before. (rest_of : List Entry) → F.client c ≡ entries before ++ rest_of → are_identities_right s F before ≡ true → Bound s F c (entries before) (client_of s c before)) (λ before p h rest_of same k. subst (Bound s F c (entries before)) (h.state ∙ sym (steps_are s (empty_client c) before)) (h.bound rest_of same k)) (knows_more s F c) (record { state = refl; once = record { one_last = λ n. omega arith; no_zero = refl; ended_once = refl }; bound = λ rest_of same k. record { says = (refl, refl, refl); untaken = tt } }) xs
+pub nothing_known : (s : Settings) (F : Family) (c : ℕ) → Knows s F c [] (empty_client c)
+nothing_known s F c = record { state = refl; once = record { one_last = λ n. omega arith; no_zero = refl; ended_once = refl }; bound = λ rest_of same k. record { says = (refl, refl, refl); untaken = tt } }
 
--- the facts for the first check
-pub client_says : (s : Settings) (F : Family) (c : ℕ) (xs : List Event) (rest_of : List Entry) → F.client c ≡ entries (client_list s c xs) ++ rest_of → are_identities_right s F (client_list s c xs) ≡ true → facts_of (client_of s c (client_list s c xs)) ≡ client_facts s F c (entries (client_list s c xs))
-client_says s F c xs rest_of same k = λ i. record { live = client_live s c xs i; identity = who i; in_exchange = steps i }
+requests_same : (rs : List ClientRow) (os : List Operation) → Matches rs os → map (λ r. live_request r.request) rs ≡ map (λ o. live_request o.request) os
+requests_same [] [] m = refl
+requests_same (r ∷ rs) (o ∷ os) m = ap (λ x. x ∷ map (λ y. live_request y.request) rs) (λ i. record { id = m.0.id i; kind = m.0.kind i }) ∙ ap (λ l. live_request o.request ∷ l) (requests_same rs os m.1)
+requests_same [] (o ∷ os) m = absurd m
+requests_same (r ∷ rs) [] m = absurd m
+
+-- what the state says to the checks is what the family says
+pub facts_by : (s : Settings) (F : Family) (c : ℕ) (before : List Marked) (p : ClientState) → Keeps s c before p → Knows s F c before p → (rest_of : List Entry) → F.client c ≡ entries before ++ rest_of → are_identities_right s F before ≡ true → facts_of (client_of s c before) ≡ client_facts s F c (entries before)
+facts_by s F c before p keeps h rest_of same k = ap facts_of (steps_are s (empty_client c) before ∙ sym h.state) ∙ (λ i. record { live = requests_same p.rows (live_operations c (entries before)) keeps.lives.rows i; identity = who i; in_exchange = steps i })
   where
-    place : List Entry
-    place = entries (client_list s c xs)
+    bound : Bound s F c (entries before) p
+    bound = h.bound rest_of same k
 
-    bound : Bound s F c (entries (client_list s c xs)) (client_of s c (client_list s c xs))
-    bound = client_bound s F c xs rest_of same k
-
-    who : (client_of s c (client_list s c xs)).identity ≡ identity s F c (entries (client_list s c xs))
-    who = by (last_bind c (entries (client_list s c xs))) bound.says
+    who : p.identity ≡ identity s F c (entries before)
+    who = by (last_bind c (entries before)) bound.says
       where
-        by : (o : Option Operation) → BindSays s F (client_of s c (client_list s c xs)) o → (client_of s c (client_list s c xs)).identity ≡ (elim o [ None ↦ [] | Some b ↦ identity_by s F b ])
-        by None h = h.0
-        by (Some b) h = h.identity
+        by : (o : Option Operation) → BindSays s F p o → p.identity ≡ (elim o [ None ↦ [] | Some b ↦ identity_by s F b ])
+        by None j = j.0
+        by (Some b) j = j.identity
 
-    steps : (client_of s c (client_list s c xs)).in_exchange ≡ is_between_steps c (entries (client_list s c xs))
-    steps = by (last_bind c (entries (client_list s c xs))) bound.says
+    steps : p.in_exchange ≡ is_between_steps c (entries before)
+    steps = by (last_bind c (entries before)) bound.says
       where
-        by : (o : Option Operation) → BindSays s F (client_of s c (client_list s c xs)) o → (client_of s c (client_list s c xs)).in_exchange ≡ passes is_in_progress o
-        by None h = h.1
-        by (Some b) h = h.exchange
+        by : (o : Option Operation) → BindSays s F p o → p.in_exchange ≡ passes is_in_progress o
+        by None j = j.1
+        by (Some b) j = j.exchange

@@ -32,7 +32,7 @@ use Rattle.client_share_laws.proofs.ClientCases.{taken}
 use Rattle.client_share_laws.proofs.OperationNames.{are_apart as names_apart, named_apart}
 use Rattle.client_answer_laws.proofs.Each.{Each, each_filter, each_imply}
 use Rattle.carried_laws.proofs.Stays.{Kept, operation_kept}
-use Rattle.identity_laws.specs.Laws.{is_identity_right}
+use Rattle.carried_laws.specs.Laws.{is_identity_right}
 use Rattle.identity_laws.proofs.Finals.{last_all, last_passes_it}
 use Rattle.identity_laws.proofs.BoundOut.{each_end, WhoRight}
 

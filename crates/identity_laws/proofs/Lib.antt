@@ -5,3 +5,5 @@ pub mod Tame
 pub mod BoundTurns
 pub mod Letters
 pub mod BoundCases
+pub mod Ins
+pub mod Checks

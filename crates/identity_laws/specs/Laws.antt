@@ -1,30 +1,31 @@
 -- Who a client is.
-use Rattle.std.specs.Prelude.{Bool, true, ◌&&◌, List, IsTrue}
-use Rattle.std.specs.List.{list_all}
-use Rattle.ldap_spec.specs.Tags.{success}
-use Rattle.ldap_spec.specs.Responses.{has_code}
-use Rattle.lload_names.specs.Same.{same_who}
-use Rattle.lload_names.specs.declared.names.Letter.{Letter}
-use Rattle.lload_names.specs.declared.names.Letter.TheVariants.{Reply}
-use Rattle.lload_spec.specs.Answers.{asks_who, closing}
-use Rattle.lload_spec.specs.Identity.{who_by}
+use Rattle.std.specs.Prelude.{◌≡◌, ℕ, true, List, ◌∷◌, ◌++◌, Some, is_some}
+use Rattle.lload_names.specs.declared.names.OpName.{OpName}
+use Rattle.lload_names.specs.declared.names.PartName.{PartName}
+use Rattle.lload_names.specs.declared.names.PartName.TheVariants.{Client}
+use Rattle.lload_spec.specs.Caused.{check_of as check_by_family}
+use Rattle.lload_spec.specs.Entries.{in_message}
+use Rattle.lload_spec.specs.FirstCheck.{client_facts}
 use Rattle.lload_spec.specs.Journal.{Family}
-use Rattle.lload_spec.specs.Lists.{implies, passes, where_there}
-use Rattle.lload_spec.specs.Operations.{operation, is_final_for}
+use Rattle.lload_spec.specs.Operations.{Operation, operation}
 use Rattle.lload_spec.specs.Settings.{Settings}
-use Rattle.part_spec.specs.Marked.{Marked}
+use Rattle.part_spec.specs.ClientState.{client_of, facts_of}
+use Rattle.part_spec.specs.Marked.{Marked, entries}
+use Rattle.part_spec.specs.Share.{check_of as check_by_list}
+use Rattle.carried_laws.specs.Laws.{Played}
 
--- whether a letter, where it is an answer of success to a Bind whose identity is asked for, tells the identity that the
--- answer which settles the Bind tells
-abbrev pub is_identity_right : Settings → Family → Letter → Bool
-is_identity_right s F (Reply op rest is_last who) =
-    passes
-    (λ o.
-    implies (asks_who s o && (is_final_for o.request rest && has_code success rest))
-    (same_who who (who_by (closing s F o))))
-    (operation F op)
-is_identity_right s F _ = true
+-- where a message came, the client's state says to the first check what the family says: which operations are live, who
+-- the client is, and whether its exchange goes on
+abbrev pub ClientsAreKnown : Type 0
+ClientsAreKnown =
+    (s : Settings) (F : Family) (marked : PartName → List Marked) → Played s F marked
+    → (c : ℕ) (before : List Marked) (m : Marked) (behind : List Marked)
+    → marked (Client c) ≡ before ++ m ∷ behind → is_some (in_message m.entry.what) ≡ true
+    → facts_of (client_of s c before) ≡ client_facts s F c (entries before)
 
--- whether each letter that a list took does
-abbrev pub are_identities_right : Settings → Family → List Marked → Bool
-are_identities_right s F list = list_all (λ m. where_there (λ t. is_identity_right s F t.letter) m.mark) list
+-- so the first check of an operation is the same by its client's state and by the family
+abbrev pub ChecksAreKnown : Type 0
+ChecksAreKnown =
+    (s : Settings) (F : Family) (marked : PartName → List Marked) → Played s F marked
+    → (op : OpName) (o : Operation) → operation F op ≡ Some o
+    → check_by_list s (marked (Client o.name.client)) o ≡ check_by_family s F o
