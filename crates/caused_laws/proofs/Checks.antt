@@ -25,7 +25,7 @@ use Rattle.identity_laws.proofs.Checks.{take_before}
 use Rattle.caused_laws.specs.Laws.{CausedByChecks}
 
 -- the state behind one entry more
-steps_push : (s : Settings) (p : ClientState) (L : List Marked) (m : Marked) → step_clients s p (L ++ m ∷ []) ≡ step_client s (step_clients s p L) m
+pub steps_push : (s : Settings) (p : ClientState) (L : List Marked) (m : Marked) → step_clients s p (L ++ m ∷ []) ≡ step_client s (step_clients s p L) m
 steps_push s p [] m = refl
 steps_push s p (x ∷ L) m = steps_push s (step_client s p x) L m
 

@@ -2,6 +2,7 @@
 use Rattle.std.specs.Prelude.{List, IsTrue}
 use Rattle.lload_names.specs.declared.names.PartName.{PartName}
 use Rattle.lload_spec.specs.Caused.{each_check_followed, each_gone_caused}
+use Rattle.lload_spec.specs.Identity.{OwnIdentity}
 use Rattle.lload_spec.specs.Journal.{Family}
 use Rattle.lload_spec.specs.Settings.{Settings}
 use Rattle.part_spec.specs.Marked.{Marked}
@@ -14,3 +15,7 @@ pub record OfChecks (s : Settings) (F : Family) : Type 0 where
 
 abbrev pub CausedByChecks : Type 0
 CausedByChecks = (s : Settings) (F : Family) (marked : PartName → List Marked) → Played s F marked → OfChecks s F
+
+-- each forwarded request carries its own client's identity
+abbrev pub CarriesOwnIdentity : Type 0
+CarriesOwnIdentity = (s : Settings) (F : Family) (marked : PartName → List Marked) → Played s F marked → OwnIdentity s F
