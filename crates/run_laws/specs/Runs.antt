@@ -1,5 +1,9 @@
 -- What is proved of every run of the parts, as statements.
-use Rattle.std.specs.Prelude.{◌≡◌, List, [], IsTrue}
+use Rattle.std.specs.Prelude.{◌≡◌, ℕ, true, List, [], ◌∷◌, ◌++◌, IsTrue, is_some}
+use Rattle.lload_names.specs.declared.names.PartName.TheVariants.{Client}
+use Rattle.lload_spec.specs.Entries.{in_message}
+use Rattle.lload_spec.specs.FirstCheck.{client_facts}
+use Rattle.lload_spec.specs.Identity.{OwnIdentity}
 use Rattle.lload_spec.specs.Settings.{Settings}
 use Rattle.lload_spec.specs.Journal.{Family, family}
 use Rattle.lload_spec.specs.Fifo.{each_sent_once, each_unanswered}
@@ -9,6 +13,10 @@ use Rattle.link_laws.specs.Moves.{end_rightly}
 use Rattle.promise_laws.specs.OneList.{Shared, OfOneList}
 use Rattle.joined_laws.specs.Joined.{Joined, OfSeveralLists}
 use Rattle.settled_laws.specs.Laws.{OfRest, Rested}
+use Rattle.part_spec.specs.ClientState.{client_of, facts_of}
+use Rattle.part_spec.specs.Marked.{Marked, entries}
+use Rattle.carried_laws.specs.Laws.{Played}
+use Rattle.caused_laws.specs.Laws.{OfChecks}
 
 -- the family of the journal of a run
 abbrev pub family_of_run : Settings → List PartMove → Family
@@ -56,3 +64,27 @@ abbrev pub RunsHeardAtRest : Type 0
 RunsHeardAtRest =
     (s : Settings) (ms : List PartMove) → IsTrue (end_rightly ms) → (world_of s ms).letters ≡ []
     → OfRest (family_of_run s ms)
+
+-- its lists are joined, and those of clients and connections are made by turns of these
+abbrev pub RunsArePlayed : Type 0
+RunsArePlayed =
+    (s : Settings) (ms : List PartMove) → IsTrue (end_rightly ms)
+    → Played s (family_of_run s ms) (list_in (world_of s ms))
+
+-- where a message came, its client's state says to the first check what the family of the journal says
+abbrev pub RunsKnowClients : Type 0
+RunsKnowClients =
+    (s : Settings) (ms : List PartMove) → IsTrue (end_rightly ms)
+    → (c : ℕ) (before : List Marked) (m : Marked) (behind : List Marked)
+    → list_in (world_of s ms) (Client c) ≡ before ++ m ∷ behind → is_some (in_message m.entry.what) ≡ true
+    → facts_of (client_of s c before) ≡ client_facts s (family_of_run s ms) c (entries before)
+
+-- each In has directly behind it what its first check wants, and each Gone has its cause
+abbrev pub RunsKeepChecks : Type 0
+RunsKeepChecks =
+    (s : Settings) (ms : List PartMove) → IsTrue (end_rightly ms) → OfChecks s (family_of_run s ms)
+
+-- each forwarded request carries its own client's identity
+abbrev pub RunsKeepIdentity : Type 0
+RunsKeepIdentity =
+    (s : Settings) (ms : List PartMove) → IsTrue (end_rightly ms) → OwnIdentity s (family_of_run s ms)

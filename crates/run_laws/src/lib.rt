@@ -6,6 +6,7 @@
 #![tactic(auto)]
 
 ghost use Rattle.run_laws.specs.Runs.{RunsAreShared, RunsAreJoined, RunsKeepOneList, RunsKeepSeveralLists, RunsKeepUnanswered, RunsSendOnce, RunsAreRested, RunsHeardAtRest};
+ghost use Rattle.run_laws.specs.Runs.{RunsArePlayed, RunsKnowClients, RunsKeepChecks, RunsKeepIdentity};
 
 /// In every run each part's list keeps the part's whole share of the promises: each letter was fit where it was taken.
 pub fn parts_keep_their_shares_in_runs()
@@ -72,4 +73,32 @@ pub fn what_was_given_was_heard_in_runs()
 {
     parts_are_rested_in_runs();
     settled_laws::what_was_given_was_heard();
+}
+
+/// In every run the lists of the parts are joined, and those of clients and connections are made by turns of these.
+pub fn parts_are_played_in_runs()
+    ensures { RunsArePlayed }
+{
+    parts_are_joined_in_runs();
+    lload_spec::the_family_of_a_journal_is_whole();
+}
+
+/// So in every run a client is who the family of the journal says, where each of its messages came: by the answer that
+/// settled its last Bind. Each message has directly behind it what its first check wants, and each client's end has its
+/// cause, by the family.
+pub fn clients_are_known_in_runs()
+    ensures known { RunsKnowClients }
+    ensures checks { RunsKeepChecks }
+{
+    parts_are_played_in_runs();
+    identity_laws::a_client_is_who_the_family_says();
+    caused_laws::clients_keep_what_their_checks_say();
+}
+
+/// And each request that went upstream carries the identity of its own client.
+pub fn requests_carry_their_own_clients_identity_in_runs()
+    ensures { RunsKeepIdentity }
+{
+    parts_are_played_in_runs();
+    caused_laws::a_sent_carries_its_own_clients_identity();
 }
