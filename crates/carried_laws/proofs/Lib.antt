@@ -1,7 +1,7 @@
 pub mod Stays
 pub mod Letters
 pub mod Forwards
-mod Taken
+pub mod Taken
 pub mod BindReplies
 pub mod TurnHeads
 pub mod Replies

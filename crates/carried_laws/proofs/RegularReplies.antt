@@ -64,7 +64,7 @@ same_kind_eq _ _ h = absurd (let bad : false ≡ true = h in cc)
 
 -- what is known of the kind of a fit Forward's operation
 module _ (s : Settings) (F : Family) (l : ConnectionLedger) where
-  kind_serves : (sender : PartName) (op holder : OpName) (kind : OpKind) (rest : List ℕ) (ask : Bool) → fits_connection s l sender (Forward op kind rest ask holder) ≡ true → agrees (same_kind Bind kind) (is_bind l.state) ≡ true
+  pub kind_serves : (sender : PartName) (op holder : OpName) (kind : OpKind) (rest : List ℕ) (ask : Bool) → fits_connection s l sender (Forward op kind rest ask holder) ≡ true → agrees (same_kind Bind kind) (is_bind l.state) ≡ true
   kind_serves sender op holder kind rest ask f =
       right (passes (same_kind kind) (kind_of rest)) (agrees (same_kind Bind kind) (is_bind l.state))
       (left (passes (same_kind kind) (kind_of rest) && agrees (same_kind Bind kind) (is_bind l.state)) _
@@ -72,7 +72,7 @@ module _ (s : Settings) (F : Family) (l : ConnectionLedger) where
       (left (same_part sender (Client op.client) && same_part sender (Client holder.client) && not (list_any (λ t. is_forward_of op t.letter) l.taken) && l.state.up && is_of_its_kind s l.state kind rest ask) _ f)))
 
   -- whether its operation is a Bind
-  bind_by : (b : Bool) → is_bind l.state ≡ b → (sender : PartName) (op holder : OpName) (kind : OpKind) (rest : List ℕ) (ask : Bool) → fits_connection s l sender (Forward op kind rest ask holder) ≡ true → (o : Operation) → says_rightly s ask kind o ≡ true → is_of Bind o ≡ b
+  pub bind_by : (b : Bool) → is_bind l.state ≡ b → (sender : PartName) (op holder : OpName) (kind : OpKind) (rest : List ℕ) (ask : Bool) → fits_connection s l sender (Forward op kind rest ask holder) ≡ true → (o : Operation) → says_rightly s ask kind o ≡ true → is_of Bind o ≡ b
   bind_by b e sender op holder kind rest ask f o says = by (kind_of o.request.rest) (left (passes (same_kind kind) (kind_of o.request.rest)) _ says)
     where
       same : (a d : Bool) → agrees a d ≡ true → a ≡ d

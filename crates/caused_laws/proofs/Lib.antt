@@ -1,3 +1,4 @@
 pub mod Checks
 pub mod Carried
 mod Sents
+mod Expiries

@@ -1,10 +1,11 @@
 //! From who the clients are to the promises that rest on it: what a request carries upstream, and what each check and each
-//! end of a client has as its cause.
+//! end of a client has as its cause. And what rests on what a Forward says: a Bind that expires takes its connection down.
 //!
-//! Each function has an empty body, and its contract is a law of families whose lists turns made.
+//! Each function has an empty body, and its contract is a law of joined lists; the first two ask that turns made the lists of
+//! clients and connections.
 #![tactic(auto)]
 
-ghost use Rattle.caused_laws.specs.Laws.{CarriesOwnIdentity, CausedByChecks};
+ghost use Rattle.caused_laws.specs.Laws.{CarriesOwnIdentity, CausedByChecks, ExpiredBindsAreTold};
 
 /// Each message of a client has directly behind it what its first check wants, by the family; and each client's end has its
 /// cause: its last check, its Unbind, or an event of its link.
@@ -19,4 +20,11 @@ pub fn a_sent_carries_its_own_clients_identity()
     ensures { CarriesOwnIdentity }
 {
     identity_laws::a_client_is_who_the_family_says();
+}
+
+/// Each Bind that expires takes its connection down, in the very next entry.
+pub fn an_expired_bind_takes_its_connection_down()
+    ensures { ExpiredBindsAreTold }
+{
+    carried_laws::a_forward_says_of_its_operation_what_the_family_says();
 }
