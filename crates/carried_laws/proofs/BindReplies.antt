@@ -1,17 +1,16 @@
 -- What a bind connection gives at a message: an answer tells the identity that the answer to Who Am I told, which settles the
 -- Bind.
 use Rattle.std.proofs.Common.{◌≡◌, ℕ, Bool, true, false, ◌==◌, ◌&&◌, ◌||◌, not, List, [], ◌∷◌, ◌++◌, refl, ap, ◌∙◌, sym, subst}
-use Rattle.std.specs.Prelude.{Option, Some, None, find, map, cond, is_none, is_some, if◌then◌else◌}
+use Rattle.std.specs.Prelude.{Option, Some, None, find, map, cond, if◌then◌else◌}
 use Rattle.std.specs.List.{list_any, list_all}
-use Rattle.std.specs.Option.{option_and_then, option_or}
-use Rattle.std.specs.Str.{bytes_eq}
+use Rattle.std.specs.Option.{option_or}
 use Rattle.std.proofs.lemmas.List.{append-nil, map-append}
 use Rattle.std.proofs.lemmas.List.Folds.{list_all-append}
 use Rattle.ldap_spec.specs.Bodies.{who_am_i}
-use Rattle.ldap_spec.specs.Kinds.{is_final, is_intermediate, kind_of, same_kind, tag_of}
+use Rattle.ldap_spec.specs.Kinds.{is_final, is_intermediate, tag_of}
 use Rattle.ldap_spec.specs.Messages.{Message}
-use Rattle.ldap_spec.specs.Responses.{has_code, result_code, tells_who, who_value}
-use Rattle.ldap_spec.specs.Tags.{bind_in_progress, extended_response, intermediate_response, success}
+use Rattle.ldap_spec.specs.Responses.{has_code, tells_who, who_value}
+use Rattle.ldap_spec.specs.Tags.{bind_in_progress, extended_response, success}
 use Rattle.lload_names.specs.Same.{same_who}
 use Rattle.lload_names.specs.declared.names.ConnKind.{ConnKind}
 use Rattle.lload_names.specs.declared.names.ConnKind.TheVariants.{Regular, Bind as BindKind}
@@ -24,24 +23,23 @@ use Rattle.lload_names.specs.declared.names.PartName.{PartName}
 use Rattle.lload_names.specs.declared.names.Posted.{Posted}
 use Rattle.lload_names.specs.declared.names.Refusal.TheVariants.{C9}
 use Rattle.lload_names.specs.declared.names.What.TheVariants as what
-use Rattle.lload_spec.specs.Answers.{Sending, sendings, sending_made, asks_who, closing_at, closing_by, final_answer, is_kept_back, who_answer, extended_under, extended_rest, wants_identity}
+use Rattle.lload_spec.specs.Answers.{Sending, sendings, asks_who, closing_at, closing_by, final_answer, is_kept_back, who_answer, extended_under}
 use Rattle.lload_spec.specs.BadMessages.{is_bad, is_bad_who, is_bad_for, is_bad_beside, is_bad_other, is_bad_own, is_ignored, MessageFacts, OpenRequest}
 use Rattle.lload_spec.specs.BadMessages as bad
-use Rattle.lload_spec.specs.Entries.{sent_message}
 use Rattle.lload_spec.specs.Journal.{Family, same_op}
 use Rattle.lload_spec.specs.Lists.{implies, passes}
-use Rattle.lload_spec.specs.Operations.{Operation, operation, is_final_for, is_of}
+use Rattle.lload_spec.specs.Operations.{operation, is_final_for, is_of}
 use Rattle.lload_spec.specs.Settings.{Settings}
-use Rattle.lload_spec.proofs.Growth.{left, right, both}
+use Rattle.lload_spec.proofs.Growth.{both}
 use Rattle.lload_laws.specs.ConnectionGrowth.{later_sending}
 use Rattle.lload_laws.proofs.ConnectionGrowth.{sendings_grow}
 use Rattle.lload_laws.proofs.ListLaws.{bytes_same, found_passes}
-use Rattle.part_laws.proofs.ListLaws.{any_behind, eqb_sym, false_by, not_true, or_left, same_number, same_op_refl}
-use Rattle.part_spec.specs.BindTurn.{answered, bind_answer, identity_letters, keep_back, kept_rest, row_answer, who_answer as who_act}
+use Rattle.part_laws.proofs.ListLaws.{any_behind, eqb_sym, or_left, same_number, same_op_refl}
+use Rattle.part_spec.specs.BindTurn.{answered, keep_back, kept_rest, row_answer, who_answer as who_act}
 use Rattle.part_spec.specs.ConnectionState.{ConnectionState, Kept, UpRow, is_under, is_under_who, keeps_back, message_facts, open_request}
-use Rattle.part_spec.specs.ConnectionTurn.{ended, goes_down, holder_ended, retires, takes_down}
+use Rattle.part_spec.specs.ConnectionTurn.{ended, goes_down, holder_ended, retires}
 use Rattle.part_spec.specs.Gives.{got_letters}
-use Rattle.part_spec.specs.Inputs.{Act, act, failed, letters_alone, nothing, reply}
+use Rattle.part_spec.specs.Inputs.{act, failed, letters_alone, nothing, reply}
 use Rattle.part_spec.specs.RegularTurn.{answered as regular_answered}
 use Rattle.connection_laws.proofs.Closings.{final_more, who_more, extended_push}
 use Rattle.bind_laws.proofs.Meets.{code_apart}

@@ -1,10 +1,9 @@
 -- Each answer that a bind connection gives tells the identity rightly: event by event.
-use Rattle.std.proofs.Common.{◌≡◌, ℕ, Bool, true, false, ◌==◌, ◌&&◌, not, List, [], ◌∷◌, ◌++◌, refl, ap, ◌∙◌, sym, subst, append_assoc}
-use Rattle.std.specs.Prelude.{Option, Some, None, map, is_none}
+use Rattle.std.proofs.Common.{◌≡◌, ℕ, Bool, true, false, ◌&&◌, not, List, [], ◌∷◌, ◌++◌, refl, ap, ◌∙◌, sym, subst, append_assoc}
+use Rattle.std.specs.Prelude.{Option, None, map}
 use Rattle.std.specs.List.{list_any, list_all}
 use Rattle.std.proofs.lemmas.List.{append-nil, map-append}
 use Rattle.std.proofs.lemmas.List.Folds.{list_all-append}
-use Rattle.ldap_spec.specs.Messages.{Message}
 use Rattle.lload_names.specs.declared.names.ConnKind.TheVariants.{Bind as BindKind}
 use Rattle.lload_names.specs.declared.names.Entry.{Entry}
 use Rattle.lload_names.specs.declared.names.PartName.{PartName}
@@ -13,11 +12,11 @@ use Rattle.lload_names.specs.declared.names.Posted.{Posted}
 use Rattle.lload_names.specs.declared.names.What.{What}
 use Rattle.lload_names.specs.declared.names.What.TheVariants as what
 use Rattle.lload_spec.specs.Answers.{Sending, sendings}
-use Rattle.lload_spec.specs.Entries.{got_message, is_down, is_linked, is_up, sent_message}
+use Rattle.lload_spec.specs.Entries.{is_down}
 use Rattle.lload_spec.specs.Journal.{Family}
 use Rattle.lload_spec.specs.Lists.{each_split_from, implies, agrees, where_there}
 use Rattle.lload_spec.specs.Settings.{Settings, is_of_kind}
-use Rattle.lload_spec.specs.Strict.{lives_as_connection, is_empty, may_follow_down}
+use Rattle.lload_spec.specs.Strict.{lives_as_connection, is_empty}
 use Rattle.lload_spec.proofs.Growth.{left, right, both}
 use Rattle.part_laws.specs.Turns.{Event, letter_with, list_from, made}
 use Rattle.part_laws.proofs.Giving.{gives_more}

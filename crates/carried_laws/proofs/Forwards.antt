@@ -1,8 +1,7 @@
 -- Each Forward that a client gave says of its operation what the client's list says.
-use Rattle.std.proofs.Common.{◌≡◌, ℕ, suc, Bool, true, false, ◌==◌, ◌&&◌, List, [], ◌∷◌, ◌++◌, length, refl, ap, ◌∙◌, sym, subst, append_assoc}
-use Rattle.std.specs.Prelude.{Option, Some, None, find, is_some, nat_le, nat_lt}
+use Rattle.std.proofs.Common.{◌≡◌, ℕ, Bool, true, false, ◌==◌, ◌&&◌, List, [], ◌∷◌, ◌++◌, length, refl, ap, ◌∙◌, sym, subst, append_assoc}
+use Rattle.std.specs.Prelude.{Option, Some, None, is_some, nat_lt}
 use Rattle.std.specs.List.{list_all}
-use Rattle.std.proofs.lemmas.List.{append-nil}
 use Rattle.std.proofs.lemmas.List.Folds.{list_all-append}
 use Rattle.ldap_spec.specs.Kinds.{kind_of, same_kind}
 use Rattle.ldap_spec.specs.Messages.{Message}
@@ -14,15 +13,15 @@ use Rattle.lload_names.specs.declared.names.OpKind.TheVariants.{Bind, Search, Mo
 use Rattle.lload_names.specs.declared.names.OpName.{OpName}
 use Rattle.lload_names.specs.declared.names.Posted.{Posted}
 use Rattle.lload_names.specs.declared.names.What.TheVariants as what
-use Rattle.lload_spec.specs.Answers.{asks_who, wants_identity}
+use Rattle.lload_spec.specs.Answers.{wants_identity}
 use Rattle.lload_spec.specs.Journal.{same_op}
 use Rattle.lload_spec.specs.Lists.{agrees, passes}
 use Rattle.lload_spec.specs.Entries.{makes_operation}
 use Rattle.lload_spec.specs.Operations.{Operation, operations, operation_in, is_request_of}
 use Rattle.lload_spec.specs.Settings.{Settings}
-use Rattle.lload_spec.proofs.Growth.{left, right, both}
+use Rattle.lload_spec.proofs.Growth.{right, both}
 use Rattle.lload_laws.proofs.ListLaws.{all_imply, found_passes}
-use Rattle.part_laws.proofs.ListLaws.{eqb_same, eq_eqb, same_number}
+use Rattle.part_laws.proofs.ListLaws.{eq_eqb}
 use Rattle.part_spec.specs.ClientState.{ClientState, ClientRow, empty_client, step_client, client_behind, name_of, new_row}
 use Rattle.part_spec.specs.Gives.{client_gives, client_letters}
 use Rattle.part_spec.specs.Marked.{Marked, entries}

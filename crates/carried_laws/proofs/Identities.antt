@@ -1,9 +1,9 @@
 -- Each success that a client took of a Bind whose identity is asked for tells the identity that the family says.
 use Rattle.std.proofs.Common.{◌≡◌, ℕ, Bool, true, false, ◌==◌, ◌&&◌, ◌||◌, not, List, [], ◌∷◌, ◌++◌, length, arith, refl, ap, ◌∙◌, sym, subst}
-use Rattle.std.specs.Prelude.{Option, Some, None, cond, filter, find, nat_le}
+use Rattle.std.specs.Prelude.{Option, Some, None, cond, find, nat_le}
 use Rattle.std.specs.List.{list_any, list_all}
 use Rattle.std.proofs.lemmas.Bool.Decides.{nat_tests}
-use Rattle.std.proofs.lemmas.List.Folds.{list_all-append, list_any-append}
+use Rattle.std.proofs.lemmas.List.Folds.{list_all-append}
 use Rattle.ldap_spec.specs.Responses.{has_code, who_value}
 use Rattle.ldap_spec.specs.Tags.{success}
 use Rattle.lload_names.specs.Same.{same_who}
@@ -25,9 +25,8 @@ use Rattle.lload_spec.specs.Operations.{Operation, operation, operation_in, oper
 use Rattle.lload_spec.specs.Settings.{Settings, is_of_kind}
 use Rattle.lload_spec.specs.Strict.{lives_as_connection}
 use Rattle.lload_spec.proofs.Growth.{left, right, both}
-use Rattle.lload_laws.proofs.ListLaws.{any-filter, any_imply, found, found_passes, implied, passes_imply}
-use Rattle.part_laws.proofs.ListLaws.{any_before, any_behind, eqb_same, eqb_sym, false_by, implies_stays, not_true, or_elim, same_number, same_op_eq}
-use Rattle.part_spec.specs.ConnectionState.{empty_connection}
+use Rattle.lload_laws.proofs.ListLaws.{any-filter, any_imply, found, found_passes}
+use Rattle.part_laws.proofs.ListLaws.{any_before, any_behind, eqb_same, false_by, implies_stays, or_elim, same_number, same_op_eq}
 use Rattle.part_spec.specs.Fit.{ClientLedger, Expected, empty_client_ledger, empty_connection_ledger, step_client_ledger, step_connection_ledger, fits_client, fits_connection, are_fit_from, is_unfit, answers, is_known}
 use Rattle.part_spec.specs.Gives.{gives}
 use Rattle.part_spec.specs.Marked.{Marked, Taken, entries, letters_to}
@@ -35,11 +34,10 @@ use Rattle.part_spec.specs.Share.{ConnectionShare}
 use Rattle.bind_laws.specs.Turns.{are_told_rightly}
 use Rattle.connection_laws.specs.Turns.{connection_list}
 use Rattle.fifo_laws.specs.Laws.{FifoSentOnce}
-use Rattle.joined_laws.specs.Joined.{Joined}
 use Rattle.joined_laws.proofs.Choices.{split_right}
 use Rattle.joined_laws.proofs.Taken.{is_mark_from, was_given, is_fit_there}
 use Rattle.client_answer_laws.proofs.Known.{or_false_left, or_false_right}
-use Rattle.carried_laws.specs.Laws.{IdentitiesAreRight, IsMade, Played, are_forwards_right, is_identity_right, are_identities_right, is_reply_right, is_settled_so, tells_rightly}
+use Rattle.carried_laws.specs.Laws.{IsMade, Played, are_forwards_right, is_identity_right, are_identities_right, is_reply_right, is_settled_so, tells_rightly}
 use Rattle.carried_laws.proofs.BindReplies.{are_replies_right}
 use Rattle.carried_laws.proofs.BindWalk.{bind_replies_right}
 use Rattle.carried_laws.proofs.RegularReplies.{regular_from, told_from}

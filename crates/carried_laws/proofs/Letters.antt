@@ -13,7 +13,7 @@ use Rattle.lload_names.specs.declared.names.Letter.TheVariants.{Ask, Returned, F
 use Rattle.lload_names.specs.declared.names.OpKind.{OpKind}
 use Rattle.lload_names.specs.declared.names.OpKind.TheVariants.{Bind}
 use Rattle.lload_names.specs.declared.names.OpName.{OpName}
-use Rattle.lload_names.specs.declared.names.PartName.TheVariants.{Desk, Up as Connection}
+use Rattle.lload_names.specs.declared.names.PartName.TheVariants.{Up as Connection}
 use Rattle.lload_names.specs.declared.names.Posted.{Posted}
 use Rattle.lload_names.specs.declared.names.Want.{Want}
 use Rattle.lload_names.specs.declared.names.What.{What}

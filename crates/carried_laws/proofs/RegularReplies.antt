@@ -1,7 +1,7 @@
 -- A regular connection answers no Bind, so its answers tell no identity where one is asked for; and a Forward to a bind
 -- connection is of a Bind.
-use Rattle.std.proofs.Common.{◌≡◌, ℕ, Bool, true, false, ◌==◌, ◌&&◌, ◌||◌, not, List, [], ◌∷◌, ◌++◌, refl, ap, ◌∙◌, sym, subst}
-use Rattle.std.specs.Prelude.{Option, Some, None, find, filter, flat_map, is_none, if◌then◌else◌}
+use Rattle.std.proofs.Common.{◌≡◌, ℕ, Bool, true, false, ◌&&◌, not, List, [], ◌∷◌, ◌++◌, refl, ap, ◌∙◌, sym, subst}
+use Rattle.std.specs.Prelude.{Option, Some, None, find, flat_map, if◌then◌else◌}
 use Rattle.std.specs.List.{list_any, list_all}
 use Rattle.std.proofs.lemmas.List.Folds.{list_all-append}
 use Rattle.ldap_spec.specs.Kinds.{is_final, kind_of, same_kind}
@@ -23,22 +23,21 @@ use Rattle.lload_names.specs.declared.names.PartName.TheVariants.{Client}
 use Rattle.lload_names.specs.declared.names.Posted.{Posted}
 use Rattle.lload_names.specs.declared.names.What.{What}
 use Rattle.lload_names.specs.declared.names.What.TheVariants as what
-use Rattle.lload_spec.specs.Answers.{Sending, asks_who, wants_identity}
+use Rattle.lload_spec.specs.Answers.{Sending, asks_who}
 use Rattle.lload_spec.specs.BadMessages.{is_bad}
-use Rattle.lload_spec.specs.Entries.{got_message}
 use Rattle.lload_spec.specs.Journal.{Family, same_op, same_part}
 use Rattle.lload_spec.specs.Lists.{agrees, implies, passes, where_there}
 use Rattle.lload_spec.specs.Operations.{Operation, operation, is_final_for, is_of, is_simple_bind}
 use Rattle.lload_spec.specs.Settings.{Settings, is_kind}
 use Rattle.lload_spec.proofs.Growth.{left, right, both}
 use Rattle.lload_laws.proofs.ListLaws.{found, passes_imply}
-use Rattle.part_laws.proofs.ListLaws.{false_by, not_true}
+use Rattle.part_laws.proofs.ListLaws.{not_true}
 use Rattle.part_spec.specs.BindTurn.{answered as bind_answered}
 use Rattle.part_spec.specs.ConnectionState.{ConnectionState, UpRow, step_connection, connection_behind, is_bind, is_under, is_under_own, behind_message, behind_own, message_facts, rows_sent}
 use Rattle.part_spec.specs.ConnectionTurn.{comes_up, ended, goes_down, latency}
-use Rattle.part_spec.specs.Fit.{ConnectionLedger, step_connection_ledger, fits_connection, are_fit_from, is_unfit, is_forward_of, is_of_its_kind, is_free_for, is_held_for}
+use Rattle.part_spec.specs.Fit.{ConnectionLedger, step_connection_ledger, fits_connection, are_fit_from, is_unfit, is_forward_of, is_of_its_kind}
 use Rattle.part_spec.specs.Gives.{connection_gives, connection_letters, got_letters}
-use Rattle.part_spec.specs.Inputs.{Act, act, letters_alone, nothing, reply}
+use Rattle.part_spec.specs.Inputs.{act, letters_alone, nothing, reply}
 use Rattle.part_spec.specs.Marked.{Marked, Taken}
 use Rattle.part_spec.specs.RegularTurn.{answered, own_answer, row_answer}
 use Rattle.bind_laws.specs.Turns.{are_told_rightly, is_told_rightly}

@@ -1,11 +1,10 @@
 -- Each answer that a bind connection gives tells the identity that settles its operation, by the connection's whole list.
-use Rattle.std.proofs.Common.{◌≡◌, ℕ, Bool, true, false, ◌==◌, ◌&&◌, ◌||◌, not, List, [], ◌∷◌, ◌++◌, refl, ap, ◌∙◌, sym, subst, append_assoc}
+use Rattle.std.proofs.Common.{◌≡◌, ℕ, Bool, true, false, ◌&&◌, List, [], ◌∷◌, ◌++◌, refl, ap, ◌∙◌, sym, subst, append_assoc}
 use Rattle.std.specs.Prelude.{Option, Some, None, flat_map, map, is_none, if◌then◌else◌}
-use Rattle.std.specs.List.{list_any, list_all}
+use Rattle.std.specs.List.{list_any}
 use Rattle.std.specs.Option.{option_or}
-use Rattle.std.proofs.lemmas.List.{append-nil, map-append}
-use Rattle.std.proofs.lemmas.List.Folds.{list_all-append, list_any-append}
-use Rattle.ldap_spec.specs.Messages.{Message}
+use Rattle.std.proofs.lemmas.List.{append-nil}
+use Rattle.std.proofs.lemmas.List.Folds.{list_all-append}
 use Rattle.ldap_spec.specs.Responses.{has_code, result_code, who_value}
 use Rattle.ldap_spec.specs.Tags.{success}
 use Rattle.lload_names.specs.Same.{same_who}
@@ -16,8 +15,7 @@ use Rattle.lload_names.specs.declared.names.Letter.{Letter}
 use Rattle.lload_names.specs.declared.names.Letter.TheVariants.{Forward, Reply, IsDown}
 use Rattle.lload_names.specs.declared.names.OpKind.TheVariants.{Bind}
 use Rattle.lload_names.specs.declared.names.OpName.{OpName}
-use Rattle.lload_names.specs.declared.names.PartName.{PartName}
-use Rattle.lload_names.specs.declared.names.PartName.TheVariants.{Desk, Up as Connection}
+use Rattle.lload_names.specs.declared.names.PartName.TheVariants.{Desk}
 use Rattle.lload_names.specs.declared.names.Posted.{Posted}
 use Rattle.lload_names.specs.declared.names.Refusal.TheVariants.{C4}
 use Rattle.lload_names.specs.declared.names.What.{What}
@@ -25,20 +23,20 @@ use Rattle.lload_names.specs.declared.names.What.TheVariants as what
 use Rattle.lload_spec.specs.Answers.{Sending, Final, sendings, sending_made, asks_who, closing_at, closing_by, final_answer, is_kept_back, who_answer, who_id, extended_under}
 use Rattle.lload_spec.specs.Entries.{got_message, sent_message}
 use Rattle.lload_spec.specs.Journal.{Family, same_op}
-use Rattle.lload_spec.specs.Lists.{implies, passes}
+use Rattle.lload_spec.specs.Lists.{passes}
 use Rattle.lload_spec.specs.Operations.{Operation, operation, is_final_for, is_of}
 use Rattle.lload_spec.specs.Settings.{Settings}
 use Rattle.lload_spec.proofs.Growth.{left, right, both}
 use Rattle.lload_laws.specs.ConnectionGrowth.{later_sending}
 use Rattle.lload_laws.proofs.ConnectionGrowth.{sendings_grow}
 use Rattle.lload_laws.proofs.ListLaws.{all_imply, any-map, any_imply, passes_imply}
-use Rattle.part_laws.proofs.ListLaws.{any_before, implies_stays, or_elim, or_left, or_right}
+use Rattle.part_laws.proofs.ListLaws.{any_before, implies_stays}
 use Rattle.part_spec.specs.BindTurn.{was_lost}
-use Rattle.part_spec.specs.ConnectionState.{ConnectionState, UpRow, step_connection, is_abandoned_by, is_bind}
+use Rattle.part_spec.specs.ConnectionState.{ConnectionState, UpRow, is_abandoned_by, is_bind}
 use Rattle.part_spec.specs.ConnectionTurn.{ended, holder_ended, loss}
 use Rattle.part_spec.specs.Gives.{connection_letters, abandoned_ended, missed_of}
 use Rattle.part_spec.specs.Inputs.{failed, to}
-use Rattle.part_spec.specs.Marked.{Marked, Taken, entries}
+use Rattle.part_spec.specs.Marked.{Taken}
 use Rattle.connection_laws.proofs.Closings.{final_more, who_more, extended_push}
 use Rattle.carried_laws.specs.Laws.{is_reply_right, is_settled_so, tells_rightly}
 use Rattle.carried_laws.proofs.BindReplies.{are_replies_right}

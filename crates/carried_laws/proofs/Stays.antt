@@ -1,6 +1,6 @@
 -- The operation of a name stays as a client's list grows, with more behind it.
 use Rattle.std.proofs.Common.{◌≡◌, ℕ, suc, Bool, List, [], ◌∷◌, ◌++◌, refl, ap, ◌∙◌, sym, append_assoc}
-use Rattle.std.specs.Prelude.{Option, Some, None, find, map, option_map, length}
+use Rattle.std.specs.Prelude.{Some, find, map, option_map, length}
 use Rattle.std.specs.Option.{option_or}
 use Rattle.std.proofs.lemmas.List.{append-nil}
 use Rattle.std.proofs.lemmas.List.Folds.{find-append}

@@ -1,8 +1,7 @@
 -- Each Forward that was taken was given by its operation's client, so it says of it what the family says.
 use Rattle.std.proofs.Common.{◌≡◌, ℕ, Bool, true, false, ◌==◌, ◌&&◌, ◌||◌, not, List, [], ◌∷◌, ◌++◌, refl, ap, ◌∙◌, sym, subst}
 use Rattle.std.specs.Prelude.{Option, Some, None}
-use Rattle.std.specs.List.{list_any, list_all}
-use Rattle.lload_names.specs.declared.names.Entry.{Entry}
+use Rattle.std.specs.List.{list_any}
 use Rattle.lload_names.specs.declared.names.Letter.{Letter}
 use Rattle.lload_names.specs.declared.names.Letter.TheVariants.{Forward}
 use Rattle.lload_names.specs.declared.names.OpName.{OpName}
@@ -19,7 +18,7 @@ use Rattle.client_answer_laws.proofs.Known.{or_false_left, or_false_right}
 use Rattle.part_spec.specs.Fit.{ClientLedger, ConnectionLedger, DeskLedger, empty_client_ledger, empty_connection_ledger, empty_desk_ledger, step_client_ledger, step_connection_ledger, step_desk_ledger, fits_client, fits_connection, fits_desk, are_fit_from, is_unfit, is_forward_of, is_of_its_kind, is_free_for, is_held_for}
 use Rattle.part_spec.specs.ConnectionState.{is_bind}
 use Rattle.part_spec.specs.Gives.{gives}
-use Rattle.part_spec.specs.Marked.{Marked, Taken, entries, letters_to}
+use Rattle.part_spec.specs.Marked.{Marked, Taken, letters_to}
 use Rattle.joined_laws.specs.Joined.{Joined}
 use Rattle.joined_laws.proofs.Taken.{is_mark_from, was_given, is_fit_there}
 use Rattle.carried_laws.specs.Laws.{ForwardsAreRight, says_rightly, is_forward_right, are_forwards_right}

@@ -1,23 +1,21 @@
 -- In each turn of a bind connection a message stands first: none of the entries behind it is one.
-use Rattle.std.proofs.Common.{◌≡◌, ℕ, max, Bool, true, false, ◌==◌, ◌&&◌, not, List, [], ◌∷◌, ◌++◌, refl, ap, ◌∙◌, sym, subst}
+use Rattle.std.proofs.Common.{◌≡◌, ℕ, max, Bool, true, false, ◌==◌, ◌&&◌, not, List, [], ◌∷◌, ◌++◌, refl, ◌∙◌}
 use Rattle.std.specs.Prelude.{Option, Some, None, find, is_none}
 use Rattle.std.specs.List.{list_all}
-use Rattle.std.proofs.lemmas.List.Folds.{list_all-append, list_all-map}
+use Rattle.std.proofs.lemmas.List.Folds.{list_all-append}
 use Rattle.ldap_spec.specs.Bodies.{who_am_i}
 use Rattle.ldap_spec.specs.Kinds.{is_intermediate}
 use Rattle.ldap_spec.specs.Messages.{Message}
-use Rattle.ldap_spec.specs.Responses.{has_code, who_value}
+use Rattle.ldap_spec.specs.Responses.{has_code}
 use Rattle.ldap_spec.specs.Tags.{bind_in_progress}
 use Rattle.lload_names.specs.declared.inputs.Effects.{Effects}
 use Rattle.lload_names.specs.declared.inputs.Input.{Input}
 use Rattle.lload_names.specs.declared.inputs.Input.TheVariants.{LinkUp, Message as MessageIn, LetterFrom, Tick}
-use Rattle.lload_names.specs.declared.names.ConnKind.TheVariants.{Regular, Bind as BindKind}
-use Rattle.lload_names.specs.declared.names.EndWhy.TheVariants.{Bad, Unfinished, TimedOut, Drained}
+use Rattle.lload_names.specs.declared.names.ConnKind.TheVariants.{Bind as BindKind}
+use Rattle.lload_names.specs.declared.names.EndWhy.TheVariants.{Bad, Unfinished, Drained}
 use Rattle.lload_names.specs.declared.names.Entry.{Entry}
 use Rattle.lload_names.specs.declared.names.Letter.{Letter}
 use Rattle.lload_names.specs.declared.names.Letter.TheVariants.{Forward, Drop, Leave, IsDown}
-use Rattle.lload_names.specs.declared.names.OpName.{OpName}
-use Rattle.lload_names.specs.declared.names.PartName.{PartName}
 use Rattle.lload_names.specs.declared.names.PartName.TheVariants.{Desk, Up as Connection}
 use Rattle.lload_names.specs.declared.names.What.{What}
 use Rattle.lload_names.specs.declared.names.What.TheVariants as what
@@ -26,10 +24,10 @@ use Rattle.lload_spec.specs.BadMessages.{is_bad}
 use Rattle.lload_spec.specs.Entries.{got_message, is_link_reason}
 use Rattle.lload_spec.specs.Identifiers.{id_for}
 use Rattle.lload_spec.specs.Settings.{Settings, place_at}
-use Rattle.lload_spec.proofs.Growth.{left, right, both}
-use Rattle.part_spec.specs.BindTurn.{answered, bind_act, bind_rule, expires, forwards, holds, identity_letters, keep_back, leaves, letter, message, missed_letters, row_answer, ticks, who_answer, link_up}
+use Rattle.lload_spec.proofs.Growth.{right, both}
+use Rattle.part_spec.specs.BindTurn.{bind_act, bind_rule, expires, holds, identity_letters, keep_back, letter, message, missed_letters, row_answer, ticks, who_answer, link_up}
 use Rattle.part_spec.specs.ConnectionState.{ConnectionState, UpRow, is_stopped, is_there, is_under, is_under_who, keeps_back, message_facts}
-use Rattle.part_spec.specs.ConnectionTurn.{behind_act, giving, goes_down, holder_ended, is_drained, is_due, retires, takes_down, with_drained}
+use Rattle.part_spec.specs.ConnectionTurn.{behind_act, giving, goes_down, holder_ended, is_drained, is_due, retires}
 use Rattle.part_spec.specs.Inputs.{Act, act, also, nothing, entries_of, letter_of, moment_for, where_so, reply, to, effects_of}
 use Rattle.part_laws.specs.Turns.{Event, Comes, Severed, no_effects}
 use Rattle.connection_laws.specs.Turns.{connection_event}

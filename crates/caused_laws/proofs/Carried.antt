@@ -1,11 +1,11 @@
 -- What a client's Forward carries is its request with the client's own identity, as the family says it was where the request
 -- came.
 use Rattle.std.proofs.Common.{◌≡◌, ℕ, suc, Bool, true, false, ◌==◌, ◌&&◌, List, [], ◌∷◌, ◌++◌, length, refl, ap, arith, ◌∙◌, sym, subst, append_assoc}
-use Rattle.std.specs.Prelude.{Option, Some, None, find, is_some, nat_le, nat_lt, unwrap_or, if◌then◌else◌}
+use Rattle.std.specs.Prelude.{Option, Some, None, is_some, nat_le, nat_lt, unwrap_or, if◌then◌else◌}
 use Rattle.std.specs.List.{list_all}
 use Rattle.std.specs.Str.{bytes_eq}
 use Rattle.std.proofs.lemmas.Bool.Decides.{nat_tests}
-use Rattle.std.proofs.lemmas.List.{append-nil, map-append}
+use Rattle.std.proofs.lemmas.List.{map-append}
 use Rattle.std.proofs.lemmas.List.Folds.{list_all-append}
 use Rattle.ldap_spec.specs.Kinds.{kind_of}
 use Rattle.ldap_spec.specs.Messages.{Message}
@@ -24,13 +24,13 @@ use Rattle.lload_spec.specs.Journal.{Family, same_op}
 use Rattle.lload_spec.specs.Lists.{passes}
 use Rattle.lload_spec.specs.Operations.{Operation, operations, operation_in, is_request_of}
 use Rattle.lload_spec.specs.Settings.{Settings}
-use Rattle.lload_spec.proofs.Growth.{left, right, both}
-use Rattle.lload_laws.specs.ClientGrowth.{later_operation, new_operation, is_named_within}
+use Rattle.lload_spec.proofs.Growth.{right, both}
+use Rattle.lload_laws.specs.ClientGrowth.{later_operation, is_named_within}
 use Rattle.lload_laws.proofs.ListLaws.{all_imply, bytes_same, found_passes}
 use Rattle.part_laws.proofs.ListLaws.{eq_eqb, not_both}
-use Rattle.part_spec.specs.ClientState.{ClientState, ClientRow, empty_client, step_client, step_clients, client_of, client_behind, name_of, new_row, forwarded}
+use Rattle.part_spec.specs.ClientState.{ClientState, ClientRow, empty_client, step_client, client_of, client_behind, name_of, new_row}
 use Rattle.part_spec.specs.Gives.{client_gives, client_letters}
-use Rattle.part_spec.specs.Marked.{Marked, Taken, entries}
+use Rattle.part_spec.specs.Marked.{Marked, entries}
 use Rattle.client_laws.proofs.ClientClauses.{Says, says_more, nothing_kept}
 use Rattle.client_laws.proofs.ClientGives.{in_state}
 use Rattle.client_laws.proofs.ClientTurns.{count_more}

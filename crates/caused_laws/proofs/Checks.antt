@@ -1,8 +1,7 @@
 -- What a client's share says of checks and of the client's end, by its state, holds by the family.
-use Rattle.std.proofs.Common.{◌≡◌, ℕ, Bool, true, false, ◌==◌, ◌&&◌, ◌||◌, List, [], ◌∷◌, ◌++◌, length, refl, ap, ◌∙◌, sym, subst, append_assoc}
+use Rattle.std.proofs.Common.{◌≡◌, ℕ, Bool, true, ◌==◌, ◌&&◌, ◌||◌, List, [], ◌∷◌, ◌++◌, length, refl, ap, ◌∙◌, sym, subst, append_assoc}
 use Rattle.std.specs.Prelude.{Option, Some, None, is_some, take}
-use Rattle.std.specs.List.{list_all}
-use Rattle.std.proofs.lemmas.List.{append-nil, map-append}
+use Rattle.std.proofs.lemmas.List.{map-append}
 use Rattle.ldap_spec.specs.Messages.{Message}
 use Rattle.lload_names.specs.declared.names.EndWhy.{EndWhy}
 use Rattle.lload_names.specs.declared.names.Entry.{Entry}
@@ -10,13 +9,13 @@ use Rattle.lload_names.specs.declared.names.PartName.{PartName}
 use Rattle.lload_names.specs.declared.names.PartName.TheVariants.{Client}
 use Rattle.lload_spec.specs.Caused.{ends_for, is_checked, is_ended_by_check, is_followed_up, is_gone_cause, is_gone_caused}
 use Rattle.lload_spec.specs.Entries.{gone_why, in_message, is_notice}
-use Rattle.lload_spec.specs.FirstCheck.{Check, check, first_check, client_facts}
+use Rattle.lload_spec.specs.FirstCheck.{Check, check, first_check}
 use Rattle.lload_spec.specs.Journal.{Family}
 use Rattle.lload_spec.specs.Lists.{each_split_from, first_passes, passes, some_split_from, where_there}
 use Rattle.lload_spec.specs.Settings.{Settings}
 use Rattle.lload_spec.proofs.Growth.{left, right, both}
 use Rattle.lload_laws.proofs.ListLaws.{all_always}
-use Rattle.part_spec.specs.ClientState.{ClientState, empty_client, step_client, step_clients, client_of, facts_of, check_at}
+use Rattle.part_spec.specs.ClientState.{ClientState, empty_client, step_client, step_clients, client_of, check_at}
 use Rattle.part_spec.specs.Marked.{Marked, entries}
 use Rattle.part_spec.specs.Share.{ClientShare, check_in, each_place, is_checked as is_checked_by_list, is_gone_caused as is_gone_by_list}
 use Rattle.carried_laws.specs.Laws.{Played}

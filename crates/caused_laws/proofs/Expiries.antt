@@ -1,11 +1,10 @@
 -- A Bind that expires takes its connection down: the row that expires is of a Bind exactly on a bind connection.
-use Rattle.std.proofs.Common.{◌≡◌, ℕ, Bool, true, false, ◌==◌, ◌&&◌, ◌||◌, not, List, [], ◌∷◌, ◌++◌, refl, ap, ◌∙◌, sym, subst}
-use Rattle.std.specs.Prelude.{Option, Some, None, find, flat_map, if◌then◌else◌}
+use Rattle.std.proofs.Common.{◌≡◌, ℕ, Bool, true, false, ◌&&◌, ◌||◌, not, List, [], ◌∷◌, ◌++◌, refl, ap, ◌∙◌, sym, subst}
+use Rattle.std.specs.Prelude.{Option, Some, None, flat_map, if◌then◌else◌}
 use Rattle.std.specs.List.{list_any, list_all}
 use Rattle.std.proofs.lemmas.List.{map-append}
 use Rattle.ldap_spec.specs.Bodies.{abandon}
 use Rattle.ldap_spec.specs.Kinds.{same_kind}
-use Rattle.ldap_spec.specs.Messages.{Message}
 use Rattle.lload_names.specs.declared.names.ConnKind.TheVariants.{Bind as BindKind}
 use Rattle.lload_names.specs.declared.names.EndWhy.TheVariants.{TimedOut}
 use Rattle.lload_names.specs.declared.names.Entry.{Entry}
@@ -13,7 +12,6 @@ use Rattle.lload_names.specs.declared.names.Letter.{Letter}
 use Rattle.lload_names.specs.declared.names.Letter.TheVariants.{Forward}
 use Rattle.lload_names.specs.declared.names.OpKind.TheVariants.{Bind}
 use Rattle.lload_names.specs.declared.names.OpName.{OpName}
-use Rattle.lload_names.specs.declared.names.PartName.{PartName}
 use Rattle.lload_names.specs.declared.names.PartName.TheVariants.{Up as Connection}
 use Rattle.lload_names.specs.declared.names.What.{What}
 use Rattle.lload_names.specs.declared.names.What.TheVariants as what
@@ -35,7 +33,6 @@ use Rattle.part_spec.specs.Share.{ConnectionShare, each_place, is_expired_due, i
 use Rattle.connection_laws.proofs.Apart.{Shrinks, shrinks_message, shrinks_own}
 use Rattle.connection_laws.proofs.ConnectionSays.{kind_step}
 use Rattle.connection_laws.proofs.Rows.{all_put, all_flat, all_filter}
-use Rattle.joined_laws.specs.Joined.{Joined}
 use Rattle.joined_laws.proofs.Taken.{is_fit_there}
 use Rattle.carried_laws.specs.Laws.{ForwardsAreRight, are_forwards_right, is_forward_right, says_rightly}
 use Rattle.carried_laws.proofs.RegularReplies.{bind_by, kind_serves}

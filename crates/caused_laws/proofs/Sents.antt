@@ -1,6 +1,6 @@
 -- Each Sent carries its own client's identity: it is the mark of a Forward that its client gave.
-use Rattle.std.proofs.Common.{◌≡◌, ℕ, Bool, true, false, ◌==◌, ◌&&◌, ◌||◌, not, List, [], ◌∷◌, ◌++◌, refl, ap, ◌∙◌, sym, subst}
-use Rattle.std.specs.Prelude.{Option, Some, None, is_some}
+use Rattle.std.proofs.Common.{◌≡◌, ℕ, Bool, true, false, ◌&&◌, ◌||◌, not, List, [], ◌∷◌, ◌++◌, refl, ap, ◌∙◌, sym, subst}
+use Rattle.std.specs.Prelude.{Option, Some, None}
 use Rattle.std.specs.List.{list_any, list_all}
 use Rattle.std.specs.Str.{bytes_eq}
 use Rattle.std.proofs.lemmas.List.Folds.{list_all-append}
@@ -15,8 +15,8 @@ use Rattle.lload_names.specs.declared.names.PartName.TheVariants.{Client, Up as 
 use Rattle.lload_names.specs.declared.names.Posted.{Posted}
 use Rattle.lload_names.specs.declared.names.What.{What}
 use Rattle.lload_names.specs.declared.names.What.TheVariants as what
-use Rattle.lload_spec.specs.Answers.{Sending, sendings, sendings_at, sendings_from, sending_made}
-use Rattle.lload_spec.specs.Entries.{Named, in_message, sent_message}
+use Rattle.lload_spec.specs.Answers.{sendings, sendings_at, sendings_from, sending_made}
+use Rattle.lload_spec.specs.Entries.{Named, sent_message}
 use Rattle.lload_spec.specs.Identity.{carried, carried_for, has_own_identity, identity}
 use Rattle.lload_spec.specs.Journal.{Family, same_op, same_part}
 use Rattle.lload_spec.specs.Lists.{passes, where_there}
@@ -26,10 +26,9 @@ use Rattle.lload_spec.proofs.Growth.{left, right, both}
 use Rattle.lload_laws.proofs.ListLaws.{found_passes}
 use Rattle.part_laws.proofs.ListLaws.{eqb_sym, or_elim, same_op_eq}
 use Rattle.part_spec.specs.ConnectionState.{is_bind, is_stopped, step_connection}
-use Rattle.part_spec.specs.ClientState.{client_of}
 use Rattle.part_spec.specs.Fit.{ConnectionLedger, empty_connection_ledger, step_connection_ledger, fits_connection, are_fit_from, is_unfit, is_forward_of, is_of_its_kind, is_free_for, is_held_for}
 use Rattle.part_spec.specs.Gives.{gives}
-use Rattle.part_spec.specs.Marked.{Marked, Taken, entries, letters_to}
+use Rattle.part_spec.specs.Marked.{Marked, Taken, letters_to}
 use Rattle.part_spec.specs.Marks.{each_from, has_connection_mark, marks_connection, must_mark_connection}
 use Rattle.part_spec.specs.Share.{ConnectionShare}
 use Rattle.joined_laws.proofs.Choices.{all_in, all_entries}

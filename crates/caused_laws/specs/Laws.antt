@@ -20,7 +20,8 @@ CausedByChecks = (s : Settings) (F : Family) (marked : PartName → List Marked)
 
 -- each forwarded request carries its own client's identity
 abbrev pub CarriesOwnIdentity : Type 0
-CarriesOwnIdentity = (s : Settings) (F : Family) (marked : PartName → List Marked) → Played s F marked → OwnIdentity s F
+CarriesOwnIdentity =
+    (s : Settings) (F : Family) (marked : PartName → List Marked) → Played s F marked → OwnIdentity s F
 
 -- each Expired of a Bind has the end of its connection directly behind it
 abbrev pub ExpiredBindsAreTold : Type 0

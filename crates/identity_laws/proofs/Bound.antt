@@ -1,9 +1,9 @@
 -- What a client's state says of its last Bind: who the client is, whether its exchange goes on, and the Bind's row.
 use Rattle.std.proofs.Common.{◌≡◌, ℕ, suc, Bool, true, false, ◌==◌, ◌&&◌, ◌||◌, not, List, [], ◌∷◌, ◌++◌, length, refl, ap, ◌∙◌, sym, subst}
-use Rattle.std.specs.Prelude.{Option, Some, None, map, filter, find, is_none, option_map, unwrap_or, if◌then◌else◌}
-use Rattle.std.specs.List.{list_any, list_all}
+use Rattle.std.specs.Prelude.{Option, Some, None, map, filter, option_map, unwrap_or, if◌then◌else◌}
+use Rattle.std.specs.List.{list_any}
 use Rattle.std.proofs.lemmas.List.Folds.{list_any-append}
-use Rattle.ldap_spec.specs.Kinds.{kind_of, same_kind}
+use Rattle.ldap_spec.specs.Kinds.{same_kind}
 use Rattle.ldap_spec.specs.Messages.{Message}
 use Rattle.ldap_spec.specs.Requests.{request}
 use Rattle.ldap_spec.specs.Responses.{has_code}
@@ -20,20 +20,20 @@ use Rattle.lload_names.specs.declared.names.What.TheVariants as what
 use Rattle.lload_spec.specs.Answers.{closing}
 use Rattle.lload_spec.specs.Entries.{makes_operation, operation_message, out_message}
 use Rattle.lload_spec.specs.Fifo.{is_in_progress}
-use Rattle.lload_spec.specs.Identity.{carried_for, identity_by, identity_of, proxied, who_by}
+use Rattle.lload_spec.specs.Identity.{identity_by, identity_of, proxied, who_by}
 use Rattle.lload_spec.specs.Journal.{Family}
 use Rattle.lload_spec.specs.Lists.{passes}
 use Rattle.lload_spec.specs.Operations.{Operation, operations, is_request_of, last_bind, got_final, is_final_for}
 use Rattle.lload_spec.specs.Settings.{Settings}
-use Rattle.lload_spec.proofs.Growth.{left, right, both}
+use Rattle.lload_spec.proofs.Growth.{both}
 use Rattle.lload_laws.specs.ClientGrowth.{later_operation, new_operation}
-use Rattle.part_laws.proofs.ListLaws.{or_elim, or_left, or_right, eqb_same, eqb_sym, false_by, not_true, same_number, not_both}
-use Rattle.part_spec.specs.ClientState.{ClientState, ClientRow, client_behind, step_client, asked_behind, new_row, abandons, is_bind_row, row_named, row_under, with_choice, with_connection, forwarded}
+use Rattle.part_laws.proofs.ListLaws.{or_elim, or_left, or_right, eqb_same, false_by, same_number, not_both}
+use Rattle.part_spec.specs.ClientState.{ClientState, ClientRow, client_behind, step_client, new_row, abandons, is_bind_row, row_named, with_choice, with_connection, forwarded}
 use Rattle.part_spec.specs.Marked.{Marked, Taken}
 use Rattle.client_laws.proofs.KindsKept.{carried_kind}
 use Rattle.client_laws.proofs.Matches.{is_untaken}
 use Rattle.client_laws.proofs.ClientGives.{in_state}
-use Rattle.client_laws.proofs.ClientLives.{entry_of, is_free_id}
+use Rattle.client_laws.proofs.ClientLives.{is_free_id}
 use Rattle.client_laws.proofs.ClientOuts.{untaken_later}
 use Rattle.client_answer_laws.proofs.Each.{Each, each_append, each_filter, each_imply, each_map}
 use Rattle.client_answer_laws.proofs.Only.{none_added}

@@ -1,13 +1,12 @@
 -- Behind each turn of a client, what the checks ask of the client is what the family says of it.
-use Rattle.std.proofs.Common.{◌≡◌, ℕ, Bool, true, false, ◌==◌, ◌&&◌, not, List, [], ◌∷◌, ◌++◌, length, refl, ap, arith, ◌∙◌, sym, subst, append_assoc}
-use Rattle.std.specs.Prelude.{Option, Some, None, find, is_none, map}
-use Rattle.std.specs.List.{list_all, list_any}
+use Rattle.std.proofs.Common.{◌≡◌, ℕ, Bool, true, false, ◌==◌, ◌&&◌, List, [], ◌∷◌, ◌++◌, refl, ap, arith, ◌∙◌, sym, subst, append_assoc}
+use Rattle.std.specs.Prelude.{Option, Some, None, is_none, map}
+use Rattle.std.specs.List.{list_all}
 use Rattle.std.proofs.lemmas.List.{append-nil, map-append}
 use Rattle.std.proofs.lemmas.List.Folds.{list_all-append}
 use Rattle.ldap_spec.specs.Bodies.{cancel_answer}
 use Rattle.ldap_spec.specs.Kinds.{kind_of, same_kind}
 use Rattle.ldap_spec.specs.Messages.{Message}
-use Rattle.lload_names.specs.declared.names.CancelAnswer.{CancelAnswer}
 use Rattle.lload_names.specs.declared.names.CancelAnswer.TheVariants.{S1, C13}
 use Rattle.lload_names.specs.declared.names.EndWhy.TheVariants.{Left}
 use Rattle.lload_names.specs.declared.names.Entry.{Entry}
@@ -25,19 +24,19 @@ use Rattle.lload_spec.specs.Identity.{identity, identity_by}
 use Rattle.lload_spec.specs.Fifo.{is_in_progress}
 use Rattle.lload_spec.specs.Journal.{Family}
 use Rattle.lload_spec.specs.Lists.{passes, where_there}
-use Rattle.lload_spec.specs.Operations.{Operation, operations, is_request_of, last_bind, live_operations}
+use Rattle.lload_spec.specs.Operations.{Operation, last_bind, live_operations}
 use Rattle.lload_spec.specs.Settings.{Settings}
 use Rattle.lload_spec.proofs.Growth.{left, right, both}
 use Rattle.lload_laws.proofs.ListLaws.{found_passes}
 use Rattle.part_laws.specs.Turns.{Event, made}
 use Rattle.part_laws.proofs.ListLaws.{not_true}
-use Rattle.part_spec.specs.ClientState.{ClientState, ClientRow, empty_client, step_client, client_of, facts_of, check_at, is_holding, is_present, row_named, new_row}
-use Rattle.part_spec.specs.ClientTurn.{canceled, noticed, refused, whats_by, whats_for}
+use Rattle.part_spec.specs.ClientState.{ClientState, ClientRow, empty_client, step_client, client_of, facts_of, check_at, row_named}
+use Rattle.part_spec.specs.ClientTurn.{canceled, refused, whats_by, whats_for}
 use Rattle.part_spec.specs.Fit.{ledger_behind as behind}
 use Rattle.part_spec.specs.Marked.{Marked, Taken, entries}
 use Rattle.client_laws.specs.Turns.{client_event}
 use Rattle.client_laws.proofs.ClientCancels.{Named, cancel_named}
-use Rattle.client_laws.proofs.ClientClauses.{Keeps, nothing_kept}
+use Rattle.client_laws.proofs.ClientClauses.{Keeps}
 use Rattle.client_laws.proofs.ClientEnds.{event_once}
 use Rattle.client_laws.proofs.ClientOuts.{EndsOnce}
 use Rattle.client_laws.proofs.Matches.{Matches}
@@ -47,7 +46,7 @@ use Rattle.client_share_laws.proofs.Whats.{refused_all, canceled_all, choice_all
 use Rattle.client_answer_laws.proofs.Owns.{of_cancel, is_of_cancel, cancel_no_bind}
 use Rattle.carried_laws.specs.Laws.{is_identity_right, are_identities_right}
 use Rattle.identity_laws.proofs.Finals.{Timely, timely}
-use Rattle.identity_laws.proofs.Bound.{Bound, BindKnown, BindSays}
+use Rattle.identity_laws.proofs.Bound.{Bound, BindSays}
 use Rattle.identity_laws.proofs.BoundOut.{WhoRight}
 use Rattle.identity_laws.proofs.BoundTurns.{OutRight, frees_quiet, turn_bound, tame_turn, gone_turn, notice_turn, left_turn, ended_turn}
 use Rattle.identity_laws.proofs.Letters.{answer_right}

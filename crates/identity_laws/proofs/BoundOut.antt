@@ -1,5 +1,5 @@
 -- Who a client is behind an Out: where it is the final answer to the last Bind, what that says.
-use Rattle.std.proofs.Common.{◌≡◌, ◌⊎◌, inl, inr, ℕ, Bool, true, false, ◌==◌, ◌&&◌, ◌||◌, not, List, [], ◌∷◌, ◌++◌, refl, ap, ◌∙◌, sym, subst}
+use Rattle.std.proofs.Common.{◌≡◌, ℕ, Bool, true, false, ◌==◌, ◌&&◌, ◌||◌, not, List, [], ◌∷◌, ◌++◌, refl, ap, ◌∙◌, sym, subst}
 use Rattle.std.specs.Prelude.{Option, Some, None, cond, filter, option_map, if◌then◌else◌}
 use Rattle.std.specs.List.{list_any, list_all}
 use Rattle.ldap_spec.specs.Kinds.{same_kind}
@@ -11,20 +11,20 @@ use Rattle.lload_names.specs.declared.names.OpKind.TheVariants.{Bind}
 use Rattle.lload_names.specs.declared.names.PartName.{PartName}
 use Rattle.lload_names.specs.declared.names.What.TheVariants as what
 use Rattle.lload_spec.specs.Answers.{closing}
-use Rattle.lload_spec.specs.Identity.{identity_by, identity_of, who_by}
+use Rattle.lload_spec.specs.Identity.{identity_of, who_by}
 use Rattle.lload_spec.specs.Journal.{Family}
-use Rattle.lload_spec.specs.Lists.{last, passes, implies}
+use Rattle.lload_spec.specs.Lists.{last, passes}
 use Rattle.lload_spec.specs.Operations.{Operation, operations, live_operations, is_live, is_of, is_final_for, last_bind, got_final}
 use Rattle.lload_spec.specs.Fifo.{is_out_before_end}
 use Rattle.lload_spec.specs.Settings.{Settings}
 use Rattle.lload_spec.proofs.Growth.{left, right, both}
 use Rattle.lload_laws.specs.ClientGrowth.{later_operation}
 use Rattle.lload_laws.proofs.ListLaws.{all_imply, any_imply, any-filter, implied}
-use Rattle.part_laws.proofs.ListLaws.{eqb_sym, eqb_same, eq_eqb, false_by, not_both, not_true, same_number, or_elim, or_left, or_right}
+use Rattle.part_laws.proofs.ListLaws.{eqb_sym, eq_eqb, false_by, not_true, same_number, or_elim, or_left, or_right}
 use Rattle.part_spec.specs.ClientState.{ClientState, ClientRow, step_client, is_bind_row, row_under, without, who_told}
 use Rattle.part_spec.specs.Marked.{Marked, Taken}
 use Rattle.bind_laws.proofs.Meets.{code_apart}
-use Rattle.client_laws.proofs.Matches.{Match, Matches, ClientLives, is_apart, are_apart, is_untaken}
+use Rattle.client_laws.proofs.Matches.{Matches, ClientLives, is_apart, are_apart, is_untaken}
 use Rattle.client_laws.proofs.ClientLives.{out_state_of}
 use Rattle.client_laws.proofs.ClientOuts.{has_last}
 use Rattle.client_answer_laws.proofs.Each.{Each, each_filter, each_imply}

@@ -1,6 +1,6 @@
 -- Who a client is behind each turn.
-use Rattle.std.proofs.Common.{◌≡◌, ℕ, Bool, true, false, ◌==◌, ◌&&◌, not, List, [], ◌∷◌, ◌++◌, length, refl, ap, ◌∙◌, sym, subst, append_assoc}
-use Rattle.std.specs.Prelude.{Option, Some, None, is_none, option_map, map}
+use Rattle.std.proofs.Common.{◌≡◌, ℕ, true, false, ◌==◌, not, List, [], ◌∷◌, ◌++◌, length, refl, ap, ◌∙◌, sym, subst, append_assoc}
+use Rattle.std.specs.Prelude.{Option, Some, None, is_none}
 use Rattle.std.specs.List.{list_all, list_any}
 use Rattle.std.proofs.lemmas.List.{append-nil}
 use Rattle.ldap_spec.specs.Bodies.{protocol_error_notice}
@@ -17,10 +17,9 @@ use Rattle.lload_names.specs.declared.names.What.TheVariants as what
 use Rattle.lload_spec.specs.Entries.{operation_message}
 use Rattle.lload_spec.specs.Journal.{Family}
 use Rattle.lload_spec.specs.Lists.{passes}
-use Rattle.lload_spec.specs.Operations.{Operation, operations, is_of, is_final_for, last_bind}
+use Rattle.lload_spec.specs.Operations.{Operation, operations, is_of, last_bind}
 use Rattle.lload_spec.specs.Settings.{Settings}
 use Rattle.lload_spec.proofs.Growth.{left, right, both}
-use Rattle.lload_laws.specs.ClientGrowth.{later_operation}
 use Rattle.part_spec.specs.ClientState.{ClientState, client_behind, step_client}
 use Rattle.part_spec.specs.Fit.{ledger_behind as behind}
 use Rattle.part_spec.specs.Inputs.{entries_of}
@@ -28,9 +27,9 @@ use Rattle.part_spec.specs.Marked.{Marked, Taken, entries}
 use Rattle.bind_laws.proofs.Meets.{bind_kind}
 use Rattle.client_laws.proofs.Matches.{ClientLives}
 use Rattle.client_laws.proofs.ClientLives.{is_free_id}
-use Rattle.client_laws.proofs.ClientTurns.{Frees, client_turn_of, tail_none, lives_through, count_more}
+use Rattle.client_laws.proofs.ClientTurns.{Frees, client_turn_of, tail_none, lives_through}
 use Rattle.identity_laws.proofs.Finals.{Timely, is_timely, bind_stays, last_passes_it}
-use Rattle.identity_laws.proofs.Bound.{Bound, BindSays, IsUntaken, RowsFrom, rows_same, says_later, got_same, plain, chosen_bound, gone_bound, in_says, in_bound}
+use Rattle.identity_laws.proofs.Bound.{Bound, BindSays, IsUntaken, rows_same, says_later, got_same, plain, chosen_bound, gone_bound, in_says, in_bound}
 use Rattle.identity_laws.proofs.BoundOut.{WhoRight, out_bound, notice_says}
 use Rattle.identity_laws.proofs.Tame.{is_tame, is_tame_answer}
 

@@ -1,15 +1,14 @@
 -- The first check of each operation is the same by its client's state and by the family.
-use Rattle.std.proofs.Common.{◌≡◌, ℕ, suc, ◌+◌, Bool, true, false, ◌==◌, List, [], ◌∷◌, ◌++◌, length, refl, ap, ◌∙◌, sym, subst, append_assoc}
-use Rattle.std.specs.Prelude.{Option, Some, None, is_some, take, map}
-use Rattle.std.proofs.lemmas.List.{append-nil, map-append}
+use Rattle.std.proofs.Common.{◌≡◌, ℕ, suc, ◌+◌, true, List, [], ◌∷◌, ◌++◌, length, refl, ap, ◌∙◌, subst, append_assoc}
+use Rattle.std.specs.Prelude.{Option, Some, None, is_some, take}
+use Rattle.std.proofs.lemmas.List.{map-append}
 use Rattle.ldap_spec.specs.Messages.{Message}
-use Rattle.lload_names.specs.declared.names.Entry.{Entry}
 use Rattle.lload_names.specs.declared.names.PartName.{PartName}
 use Rattle.lload_names.specs.declared.names.PartName.TheVariants.{Client}
 use Rattle.lload_names.specs.declared.names.What.{What}
 use Rattle.lload_names.specs.declared.names.What.TheVariants as what
 use Rattle.lload_spec.specs.Entries.{in_message, operation_message}
-use Rattle.lload_spec.specs.FirstCheck.{check, client_facts, first_check}
+use Rattle.lload_spec.specs.FirstCheck.{check, first_check}
 use Rattle.lload_spec.specs.Journal.{Family, same_op}
 use Rattle.lload_spec.specs.Operations.{Operation, operations, operations_from, operation_made, made}
 use Rattle.lload_spec.specs.Settings.{Settings}
@@ -18,7 +17,6 @@ use Rattle.part_laws.proofs.ListLaws.{same_op_eq}
 use Rattle.part_spec.specs.ClientState.{client_of, facts_of}
 use Rattle.part_spec.specs.Marked.{Marked, entries}
 use Rattle.part_spec.specs.Share.{check_in}
-use Rattle.client_laws.specs.Turns.{client_list}
 use Rattle.client_answer_laws.proofs.Each.{Each, each_append, each_found}
 use Rattle.carried_laws.specs.Laws.{IdentitiesAreRight, Played}
 use Rattle.identity_laws.specs.Laws.{ClientsAreKnown, ChecksAreKnown}

@@ -12,7 +12,7 @@ use Rattle.lload_spec.specs.Lists.{last, passes}
 use Rattle.lload_spec.specs.Entries.{operation_message, out_message, is_gone}
 use Rattle.std.proofs.Math.Bool.{or-false}
 use Rattle.lload_spec.specs.Fifo.{is_out_before_end, is_ended_once}
-use Rattle.lload_spec.specs.Operations.{Operation, Manner, Cancelled, Answered, Abandoned, Rebound, ClientGone, is_abandon_of, is_bind_in, operations, operation_made, takes_id, out_rest, outs_under, outs, manner_of, ending_or, ending_from, is_out_for, is_final_out, is_cancellation, is_final_for, is_request_of, is_of, is_live, last_bind, got_final}
+use Rattle.lload_spec.specs.Operations.{Operation, Manner, Cancelled, Answered, Abandoned, Rebound, ClientGone, is_abandon_of, is_bind_in, operations, operation_made, takes_id, out_rest, outs_under, outs, manner_of, ending_or, ending_from, is_final_out, is_cancellation, is_final_for, is_request_of, is_of, is_live, last_bind, got_final}
 use Rattle.lload_spec.proofs.Growth.{left, right, both, looks_back}
 use Rattle.lload_laws.specs.ClientGrowth.{later_operation, new_operation}
 use Rattle.lload_laws.proofs.ClientGrowth.{operations_none, operations_one, operations_grow}
@@ -158,9 +158,10 @@ older t c L e h = sym (list_all-map t (later_operation e) (operations c L)) ∙ 
 once_before : (c : ℕ) (place : List Entry) (e : Entry) → Once c (place ++ e ∷ []) → Once c place × (list_all (is_timely e) (operations c place) ≡ true)
 once_before c place e h =
     let above : list_all (λ o. not (o.request.id == 0)) (operations c place) ≡ true = older (λ o. not (o.request.id == 0)) c place e h.above in
-    let both_of : list_all (λ o. is_ended_once o && is_out_before_end o.request o.behind e) (operations c place) ≡ true = all_imply (λ o. is_ended_once (later_operation e o)) (λ o. is_ended_once o && is_out_before_end o.request o.behind e) (operations c place) (λ o k. sym (looks_back (is_out_before_end o.request) o.behind e) ∙ k) (older is_ended_once c place e h.once) in
-    (record { once = all_imply (λ o. is_ended_once o && is_out_before_end o.request o.behind e) is_ended_once (operations c place) (λ o k. left (is_ended_once o) _ k) both_of; above = above },
-    all_both (λ o. is_out_before_end o.request o.behind e) (λ o. not (o.request.id == 0)) (operations c place) (all_imply (λ o. is_ended_once o && is_out_before_end o.request o.behind e) (λ o. is_out_before_end o.request o.behind e) (operations c place) (λ o k. right (is_ended_once o) _ k) both_of) above)
+    let both_of : list_all (λ o. is_ended_once o && is_out_before_end o.request o.behind e) (operations c place) ≡ true = all_imply (λ o. is_ended_once (later_operation e o)) (λ o. is_ended_once o && is_out_before_end o.request o.behind e) (operations c place) (λ o k. sym (looks_back (is_out_before_end o.request) o.behind e) ∙ k) (older is_ended_once c place e h.once) in (
+      record { once = all_imply (λ o. is_ended_once o && is_out_before_end o.request o.behind e) is_ended_once (operations c place) (λ o k. left (is_ended_once o) _ k) both_of; above = above },
+      all_both (λ o. is_out_before_end o.request o.behind e) (λ o. not (o.request.id == 0)) (operations c place) (all_imply (λ o. is_ended_once o && is_out_before_end o.request o.behind e) (λ o. is_out_before_end o.request o.behind e) (operations c place) (λ o k. right (is_ended_once o) _ k) both_of) above,
+    )
 
 once_from : (c : ℕ) (place es : List Entry) → Once c (place ++ es) → Once c place × Timely c place es
 once_from c place [] h = (subst (Once c) (append-nil place) h, tt)

@@ -1,5 +1,5 @@
 -- Where a message comes, a turn of its client begins; there the client's state says what the family says.
-use Rattle.std.proofs.Common.{◌≡◌, ℕ, Bool, true, false, ◌&&◌, List, [], ◌∷◌, ◌++◌, refl, ap, ◌∙◌, sym, subst, append_assoc}
+use Rattle.std.proofs.Common.{◌≡◌, ℕ, Bool, true, false, List, [], ◌∷◌, ◌++◌, refl, ap, ◌∙◌, sym, subst, append_assoc}
 use Rattle.std.specs.Prelude.{Option, Some, None, is_none, is_some, map}
 use Rattle.std.specs.List.{list_all}
 use Rattle.std.proofs.lemmas.List.{append-nil, map-append}
@@ -13,27 +13,24 @@ use Rattle.lload_names.specs.declared.names.PartName.TheVariants.{Client}
 use Rattle.lload_names.specs.declared.names.What.{What}
 use Rattle.lload_names.specs.declared.names.What.TheVariants as what
 use Rattle.lload_spec.specs.Entries.{in_message}
-use Rattle.lload_spec.specs.FirstCheck.{Check, Ends, Unbinds, Abandons, Refuses, Answers, Cancels, GoesOn, client_facts, live_request}
+use Rattle.lload_spec.specs.FirstCheck.{Check, Ends, Unbinds, Abandons, Refuses, Answers, Cancels, GoesOn, client_facts}
 use Rattle.lload_spec.specs.Journal.{Family}
 use Rattle.lload_spec.specs.Lists.{where_there}
-use Rattle.lload_spec.specs.Operations.{Operation, live_operations}
 use Rattle.lload_spec.specs.Settings.{Settings}
-use Rattle.lload_spec.proofs.Growth.{left, right, both}
+use Rattle.lload_spec.proofs.Growth.{left, right}
 use Rattle.part_laws.specs.Turns.{Event, made}
-use Rattle.part_spec.specs.ClientState.{ClientState, ClientRow, empty_client, step_client, client_of, facts_of, check_at, row_named}
+use Rattle.part_spec.specs.ClientState.{ClientState, step_client, client_of, facts_of, check_at, row_named}
 use Rattle.part_spec.specs.ClientTurn.{whats_by, whats_for, noticed, refused}
 use Rattle.part_spec.specs.Fit.{ledger_behind as behind}
 use Rattle.part_spec.specs.Inputs.{entries_of}
 use Rattle.part_spec.specs.Marked.{Marked, Taken, entries}
 use Rattle.client_laws.specs.Turns.{client_event, client_list}
 use Rattle.client_laws.proofs.ClientClauses.{Keeps}
-use Rattle.client_laws.proofs.ClientTurns.{client_turn_of, steps_are}
-use Rattle.client_laws.proofs.Matches.{Matches}
+use Rattle.client_laws.proofs.ClientTurns.{client_turn_of}
 use Rattle.client_share_laws.proofs.ClientCases.{Cases, event_case, taken}
 use Rattle.client_share_laws.proofs.ClientKept.{kept_always}
 use Rattle.client_share_laws.proofs.Whats.{refused_all, canceled_all, choice_all}
-use Rattle.carried_laws.specs.Laws.{Played, are_identities_right, is_identity_right}
-use Rattle.identity_laws.proofs.Bound.{Bound}
+use Rattle.carried_laws.specs.Laws.{are_identities_right, is_identity_right}
 use Rattle.identity_laws.proofs.BoundCases.{Knows, knows_more, nothing_known, facts_by}
 
 -- what is known where a message comes
@@ -113,9 +110,10 @@ Known s F c before ms = Ins (λ b. facts_of (client_of s c b) ≡ client_facts s
 
 known_from : (s : Settings) (F : Family) (c : ℕ) (before ms : List Marked) → F.client c ≡ entries (before ++ ms) → are_identities_right s F (before ++ ms) ≡ true → Ins (FactsAt s F c) before ms → Known s F c before ms
 known_from s F c before [] same told h = tt
-known_from s F c before (m ∷ ms) same told h =
-    ((λ k. h.0 k (m.entry ∷ entries ms) (same ∙ map-append (λ (x : Marked). x.entry) before (m ∷ ms)) (left (are_identities_right s F before) _ (sym (list_all-append (λ x. where_there (λ t. is_identity_right s F t.letter) x.mark) before (m ∷ ms)) ∙ told))),
-    known_from s F c (before ++ m ∷ []) ms (same ∙ ap entries (sym (append_assoc before (m ∷ []) ms))) (ap (are_identities_right s F) (append_assoc before (m ∷ []) ms) ∙ told) h.1)
+known_from s F c before (m ∷ ms) same told h = (
+  (λ k. h.0 k (m.entry ∷ entries ms) (same ∙ map-append (λ (x : Marked). x.entry) before (m ∷ ms)) (left (are_identities_right s F before) _ (sym (list_all-append (λ x. where_there (λ t. is_identity_right s F t.letter) x.mark) before (m ∷ ms)) ∙ told))),
+  known_from s F c (before ++ m ∷ []) ms (same ∙ ap entries (sym (append_assoc before (m ∷ []) ms))) (ap (are_identities_right s F) (append_assoc before (m ∷ []) ms) ∙ told) h.1,
+)
 
 pub client_known : (s : Settings) (F : Family) (c : ℕ) (list : List Marked) (xs : List Event) → client_list s c xs ≡ list → entries list ≡ F.client c → are_identities_right s F list ≡ true → Known s F c [] list
 client_known s F c list xs same entries_are told = known_from s F c [] list (sym entries_are) told (subst (Ins (FactsAt s F c) []) same (list_ins s F c xs))

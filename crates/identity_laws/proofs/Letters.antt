@@ -1,11 +1,10 @@
 -- An answer that tells the identity rightly gives its client the identity that the family says.
-use Rattle.std.proofs.Common.{◌≡◌, ℕ, Bool, true, false, ◌==◌, ◌&&◌, not, List, [], ◌∷◌, ◌++◌, length, refl, ap, ◌∙◌, sym, subst}
+use Rattle.std.proofs.Common.{◌≡◌, ℕ, Bool, true, false, ◌==◌, ◌&&◌, not, List, [], ◌∷◌, ◌++◌, length, refl, ap, ◌∙◌, sym}
 use Rattle.std.specs.Prelude.{Option, Some, None, cond, find, filter, unwrap_or, if◌then◌else◌}
-use Rattle.std.specs.List.{list_all, list_any}
-use Rattle.std.specs.Str.{bytes_eq}
+use Rattle.std.specs.List.{list_all}
 use Rattle.std.proofs.lemmas.Slice.Eq.{bytes_eq-Decides}
 use Rattle.ldap_spec.specs.Messages.{Message}
-use Rattle.ldap_spec.specs.Requests.{Method, Request, BindRequest, Simple, request}
+use Rattle.ldap_spec.specs.Requests.{Request, BindRequest, Simple, request}
 use Rattle.ldap_spec.specs.Responses.{has_code}
 use Rattle.ldap_spec.specs.Tags.{success}
 use Rattle.lload_names.specs.Same.{same_who}
@@ -15,9 +14,9 @@ use Rattle.lload_names.specs.declared.names.OpKind.TheVariants.{Bind}
 use Rattle.lload_names.specs.declared.names.OpName.{OpName}
 use Rattle.lload_names.specs.declared.names.PartName.{PartName}
 use Rattle.lload_spec.specs.Answers.{closing, wants_identity}
-use Rattle.lload_spec.specs.Identity.{identity_of, simple_identity, who_by}
+use Rattle.lload_spec.specs.Identity.{identity_of, who_by}
 use Rattle.lload_spec.specs.Journal.{Family, same_op}
-use Rattle.lload_spec.specs.Lists.{last, passes, implies}
+use Rattle.lload_spec.specs.Lists.{passes, implies}
 use Rattle.lload_spec.specs.Operations.{Operation, operation, operation_in, operations, is_of, is_final_for, is_request_of, is_simple_bind, last_bind}
 use Rattle.lload_spec.specs.Settings.{Settings}
 use Rattle.lload_spec.proofs.Growth.{left, right, both}
@@ -25,12 +24,11 @@ use Rattle.lload_laws.specs.ClientGrowth.{is_named_within}
 use Rattle.lload_laws.proofs.ClientGrowth.{own_names}
 use Rattle.lload_laws.proofs.ListLaws.{found, found_passes, implied}
 use Rattle.part_laws.proofs.ListLaws.{eqb_sym, eq_eqb, not_both, not_true, same_number, same_op_refl, same_op_sym, same_op_eq}
-use Rattle.part_spec.specs.ClientState.{ClientState, ClientRow, is_bind_row, row_named, row_under}
-use Rattle.part_spec.specs.Marked.{Taken}
+use Rattle.part_spec.specs.ClientState.{ClientState, ClientRow, row_named, row_under}
 use Rattle.client_laws.proofs.Matches.{is_apart, are_apart}
 use Rattle.client_share_laws.proofs.ClientCases.{taken}
 use Rattle.client_share_laws.proofs.OperationNames.{are_apart as names_apart, named_apart}
-use Rattle.client_answer_laws.proofs.Each.{Each, each_filter, each_imply}
+use Rattle.client_answer_laws.proofs.Each.{Each, each_filter}
 use Rattle.carried_laws.proofs.Stays.{Kept, operation_kept}
 use Rattle.carried_laws.specs.Laws.{is_identity_right}
 use Rattle.identity_laws.proofs.Finals.{last_all, last_passes_it}

@@ -1,7 +1,6 @@
 -- The lists of a run are joined, and those of its clients and connections are made by turns of these.
 use Rattle.std.proofs.Common.{◌≡◌, ℕ, true, false, List, [], ◌∷◌, refl, ap, ◌∙◌, sym}
 use Rattle.lload_names.specs.declared.names.PartName.TheVariants.{Client, Up as Connection}
-use Rattle.lload_spec.specs.Journal.{IsWhole}
 use Rattle.lload_spec.specs.Laws.{FamilyIsWhole}
 use Rattle.lload_spec.specs.Settings.{Settings}
 use Rattle.part_laws.specs.Turns.{no_effects}
