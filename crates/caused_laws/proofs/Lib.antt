@@ -2,3 +2,4 @@ pub mod Checks
 pub mod Carried
 mod Sents
 mod Expiries
+mod Binds

@@ -1,11 +1,12 @@
 //! From who the clients are to the promises that rest on it: what a request carries upstream, and what each check and each
-//! end of a client has as its cause. And what rests on what a Forward says: a Bind that expires takes its connection down.
+//! end of a client has as its cause. And what rests on what a Forward says: a Bind that expires takes its connection down,
+//! and what a bind connection's state says is what its list says.
 //!
-//! Each function has an empty body, and its contract is a law of joined lists; the first two ask that turns made the lists of
+//! Each function has an empty body, and its contract is a law of joined lists; all but one ask that turns made the lists of
 //! clients and connections.
 #![tactic(auto)]
 
-ghost use Rattle.caused_laws.specs.Laws.{CarriesOwnIdentity, CausedByChecks, ExpiredBindsAreTold};
+ghost use Rattle.caused_laws.specs.Laws.{BindConnectionsSay, CarriesOwnIdentity, CausedByChecks, ExpiredBindsAreTold};
 
 /// Each message of a client has directly behind it what its first check wants, by the family; and each client's end has its
 /// cause: its last check, its Unbind, or an event of its link.
@@ -27,4 +28,14 @@ pub fn an_expired_bind_takes_its_connection_down()
     ensures { ExpiredBindsAreTold }
 {
     carried_laws::a_forward_says_of_its_operation_what_the_family_says();
+}
+
+/// What a bind connection's state says behind its list is what the list says by the family: which identifiers are next and
+/// free, which were given, and which request is open to a message.
+pub fn a_bind_connection_says_what_the_family_says()
+    ensures { BindConnectionsSay }
+{
+    carried_laws::a_forward_says_of_its_operation_what_the_family_says();
+    part_spec::a_fit_list_begins_with_all_of_it();
+    bind_laws::a_bind_connection_says_what_its_list_says();
 }

@@ -1,10 +1,12 @@
 -- What is proved of every run of the parts, as statements.
 use Rattle.std.specs.Prelude.{◌≡◌, ℕ, true, List, [], ◌∷◌, ◌++◌, IsTrue, is_some}
-use Rattle.lload_names.specs.declared.names.PartName.TheVariants.{Client}
+use Rattle.lload_names.specs.declared.names.PartName.TheVariants.{Client, Up as Connection}
+use Rattle.lload_names.specs.declared.names.ConnKind.TheVariants.{Bind as BindKind}
+use Rattle.lload_spec.specs.CausedUp.{each_bind_expiry_told}
 use Rattle.lload_spec.specs.Entries.{in_message}
 use Rattle.lload_spec.specs.FirstCheck.{client_facts}
 use Rattle.lload_spec.specs.Identity.{OwnIdentity}
-use Rattle.lload_spec.specs.Settings.{Settings}
+use Rattle.lload_spec.specs.Settings.{Settings, is_of_kind}
 use Rattle.lload_spec.specs.Journal.{Family, family}
 use Rattle.lload_spec.specs.Fifo.{each_sent_once, each_unanswered}
 use Rattle.part_spec.specs.Merge.{PartMove, world_of}
@@ -16,7 +18,7 @@ use Rattle.settled_laws.specs.Laws.{OfRest, Rested}
 use Rattle.part_spec.specs.ClientState.{client_of, facts_of}
 use Rattle.part_spec.specs.Marked.{Marked, entries}
 use Rattle.carried_laws.specs.Laws.{Played}
-use Rattle.caused_laws.specs.Laws.{OfChecks}
+use Rattle.caused_laws.specs.Laws.{BindSaid, OfChecks}
 
 -- the family of the journal of a run
 abbrev pub family_of_run : Settings → List PartMove → Family
@@ -88,3 +90,14 @@ RunsKeepChecks =
 abbrev pub RunsKeepIdentity : Type 0
 RunsKeepIdentity =
     (s : Settings) (ms : List PartMove) → IsTrue (end_rightly ms) → OwnIdentity s (family_of_run s ms)
+
+-- each Expired of a Bind has the end of its connection directly behind it
+abbrev pub RunsTellExpiredBinds : Type 0
+RunsTellExpiredBinds =
+    (s : Settings) (ms : List PartMove) → IsTrue (end_rightly ms) → IsTrue (each_bind_expiry_told (family_of_run s ms))
+
+-- what a bind connection's state says is what its list says by the family of the journal
+abbrev pub RunsSayBinds : Type 0
+RunsSayBinds =
+    (s : Settings) (ms : List PartMove) → IsTrue (end_rightly ms) → (u : ℕ) → is_of_kind s BindKind u ≡ true
+    → BindSaid s (family_of_run s ms) u (list_in (world_of s ms) (Connection u))

@@ -6,7 +6,7 @@
 #![tactic(auto)]
 
 ghost use Rattle.run_laws.specs.Runs.{RunsAreShared, RunsAreJoined, RunsKeepOneList, RunsKeepSeveralLists, RunsKeepUnanswered, RunsSendOnce, RunsAreRested, RunsHeardAtRest};
-ghost use Rattle.run_laws.specs.Runs.{RunsArePlayed, RunsKnowClients, RunsKeepChecks, RunsKeepIdentity};
+ghost use Rattle.run_laws.specs.Runs.{RunsArePlayed, RunsKnowClients, RunsKeepChecks, RunsKeepIdentity, RunsTellExpiredBinds, RunsSayBinds};
 
 /// In every run each part's list keeps the part's whole share of the promises: each letter was fit where it was taken.
 pub fn parts_keep_their_shares_in_runs()
@@ -101,4 +101,16 @@ pub fn requests_carry_their_own_clients_identity_in_runs()
 {
     parts_are_played_in_runs();
     caused_laws::a_sent_carries_its_own_clients_identity();
+}
+
+/// In every run each Bind that expires takes its connection down, in the very next entry; and what a bind connection's state
+/// says is what its list says by the family of the journal.
+pub fn bind_connections_are_known_in_runs()
+    ensures expired { RunsTellExpiredBinds }
+    ensures says { RunsSayBinds }
+{
+    parts_are_joined_in_runs();
+    parts_are_played_in_runs();
+    caused_laws::an_expired_bind_takes_its_connection_down();
+    caused_laws::a_bind_connection_says_what_the_family_says();
 }
