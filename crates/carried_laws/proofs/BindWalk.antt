@@ -40,15 +40,15 @@ use Rattle.carried_laws.proofs.TurnHeads.{Whats, begins_alone, event_whats, is_n
 
 -- Tests of the rest of a list.
 
-fit_rest : (s : Settings) (l : ConnectionLedger) (L M : List Marked) → are_fit_from (fits_connection s) (step_connection_ledger s) l (L ++ M) ≡ true → are_fit_from (fits_connection s) (step_connection_ledger s) (behind (step_connection_ledger s) l L) M ≡ true
+pub fit_rest : (s : Settings) (l : ConnectionLedger) (L M : List Marked) → are_fit_from (fits_connection s) (step_connection_ledger s) l (L ++ M) ≡ true → are_fit_from (fits_connection s) (step_connection_ledger s) (behind (step_connection_ledger s) l L) M ≡ true
 fit_rest s l [] M h = h
 fit_rest s l (m ∷ L) M h = fit_rest s (step_connection_ledger s l m) L M (right (not (is_unfit (fits_connection s) l m.mark)) _ h)
 
-split_rest : (t : List Entry → Entry → List Entry → Bool) (place L M : List Entry) → each_split_from t place (L ++ M) ≡ true → each_split_from t (place ++ L) M ≡ true
+pub split_rest : (t : List Entry → Entry → List Entry → Bool) (place L M : List Entry) → each_split_from t place (L ++ M) ≡ true → each_split_from t (place ++ L) M ≡ true
 split_rest t place [] M h = subst (λ p. each_split_from t p M ≡ true) (sym (append-nil place)) h
 split_rest t place (e ∷ L) M h = subst (λ p. each_split_from t p M ≡ true) (append_assoc place (e ∷ []) L) (split_rest t (place ++ e ∷ []) L M (right (t place e (L ++ M)) _ h))
 
-abbrev lives : List Entry → Entry → List Entry → Bool
+abbrev pub lives : List Entry → Entry → List Entry → Bool
 lives place e behind = lives_as_connection place e
 
 module _ (s : Settings) (F : Family) (u : ℕ) (kind : is_of_kind s BindKind u ≡ true) where
@@ -105,7 +105,7 @@ module _ (s : Settings) (F : Family) (u : ℕ) (kind : is_of_kind s BindKind u �
       ∙ both (are_replies_right s F sents (first ++ others)) _ both_of (subst (λ l. are_replies_right s F (sendings u l) rests ≡ true) grown later))
 
   -- the list has one entry of a turn at least, so that its letter was fit; or none, and it makes no difference
-  next_tells : (before : List Marked) (l : ConnectionLedger) (x : Event) (rest : List Marked) → BindTells s F u before l → are_fit_from (fits_connection s) (step_connection_ledger s) l (made (connection_event s) l.state x ++ rest) ≡ true → BindTells s F u (before ++ made (connection_event s) l.state x) (behind (step_connection_ledger s) l (made (connection_event s) l.state x))
+  pub next_tells : (before : List Marked) (l : ConnectionLedger) (x : Event) (rest : List Marked) → BindTells s F u before l → are_fit_from (fits_connection s) (step_connection_ledger s) l (made (connection_event s) l.state x ++ rest) ≡ true → BindTells s F u (before ++ made (connection_event s) l.state x) (behind (step_connection_ledger s) l (made (connection_event s) l.state x))
   next_tells before l x rest h fit = by (connection_event s l.state x).entries fit (λ f. event_keeps_by s u kind (BindTells s F u) (λ b i k. k.keeps) (tells_turn s F u (begins_no_bind s u kind)) before l h x f)
     where
       by : (es : List Entry) → are_fit_from (fits_connection s) (step_connection_ledger s) l (marked_by (letter_with x) es ++ rest) ≡ true → (is_unfit (fits_connection s) l (letter_with x) ≡ false → BindTells s F u (before ++ marked_by (letter_with x) es) (behind (step_connection_ledger s) l (marked_by (letter_with x) es))) → BindTells s F u (before ++ marked_by (letter_with x) es) (behind (step_connection_ledger s) l (marked_by (letter_with x) es))

@@ -3,3 +3,6 @@ pub mod Carried
 mod Sents
 mod Expiries
 mod Binds
+pub mod Holders
+mod HolderWalk
+mod HoldersAlone

@@ -7,6 +7,7 @@ use Rattle.lload_spec.specs.Caused.{each_check_followed, each_gone_caused}
 use Rattle.lload_spec.specs.CausedUp.{each_bind_expiry_told, message_facts as facts_by_list}
 use Rattle.lload_spec.specs.Identity.{OwnIdentity}
 use Rattle.lload_spec.specs.Journal.{Family}
+use Rattle.lload_spec.specs.OneEach.{each_holder_alone}
 use Rattle.lload_spec.specs.Settings.{Settings, is_of_kind}
 use Rattle.part_spec.specs.ConnectionState.{connection_of, message_facts}
 use Rattle.part_spec.specs.Marked.{Marked, entries}
@@ -45,3 +46,9 @@ abbrev pub BindConnectionsSay : Type 0
 BindConnectionsSay =
     (s : Settings) (F : Family) (marked : PartName → List Marked) → Played s F marked
     → (u : ℕ) → is_of_kind s BindKind u ≡ true → BindSaid s F u (marked (Connection u))
+
+-- each bind connection has one holder at a time: where a Bind is sent, the one before it is settled, and its client left the
+-- connection or is the same
+abbrev pub HoldersAreAlone : Type 0
+HoldersAreAlone =
+    (s : Settings) (F : Family) (marked : PartName → List Marked) → Played s F marked → IsTrue (each_holder_alone s F)

@@ -9,6 +9,7 @@ use Rattle.lload_spec.specs.Identity.{OwnIdentity}
 use Rattle.lload_spec.specs.Settings.{Settings, is_of_kind}
 use Rattle.lload_spec.specs.Journal.{Family, family}
 use Rattle.lload_spec.specs.Fifo.{each_sent_once, each_unanswered}
+use Rattle.lload_spec.specs.OneEach.{each_holder_alone}
 use Rattle.part_spec.specs.Merge.{PartMove, world_of}
 use Rattle.part_spec.specs.World.{journal_of, list_in}
 use Rattle.link_laws.specs.Moves.{end_rightly}
@@ -101,3 +102,8 @@ abbrev pub RunsSayBinds : Type 0
 RunsSayBinds =
     (s : Settings) (ms : List PartMove) → IsTrue (end_rightly ms) → (u : ℕ) → is_of_kind s BindKind u ≡ true
     → BindSaid s (family_of_run s ms) u (list_in (world_of s ms) (Connection u))
+
+-- each bind connection has one holder at a time
+abbrev pub RunsHoldAlone : Type 0
+RunsHoldAlone =
+    (s : Settings) (ms : List PartMove) → IsTrue (end_rightly ms) → IsTrue (each_holder_alone s (family_of_run s ms))

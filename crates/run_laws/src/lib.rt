@@ -6,7 +6,7 @@
 #![tactic(auto)]
 
 ghost use Rattle.run_laws.specs.Runs.{RunsAreShared, RunsAreJoined, RunsKeepOneList, RunsKeepSeveralLists, RunsKeepUnanswered, RunsSendOnce, RunsAreRested, RunsHeardAtRest};
-ghost use Rattle.run_laws.specs.Runs.{RunsArePlayed, RunsKnowClients, RunsKeepChecks, RunsKeepIdentity, RunsTellExpiredBinds, RunsSayBinds};
+ghost use Rattle.run_laws.specs.Runs.{RunsArePlayed, RunsKnowClients, RunsKeepChecks, RunsKeepIdentity, RunsTellExpiredBinds, RunsSayBinds, RunsHoldAlone};
 
 /// In every run each part's list keeps the part's whole share of the promises: each letter was fit where it was taken.
 pub fn parts_keep_their_shares_in_runs()
@@ -104,13 +104,15 @@ pub fn requests_carry_their_own_clients_identity_in_runs()
 }
 
 /// In every run each Bind that expires takes its connection down, in the very next entry; and what a bind connection's state
-/// says is what its list says by the family of the journal.
+/// says is what its list says by the family of the journal. And a bind connection has one holder at a time.
 pub fn bind_connections_are_known_in_runs()
     ensures expired { RunsTellExpiredBinds }
     ensures says { RunsSayBinds }
+    ensures alone { RunsHoldAlone }
 {
     parts_are_joined_in_runs();
     parts_are_played_in_runs();
     caused_laws::an_expired_bind_takes_its_connection_down();
     caused_laws::a_bind_connection_says_what_the_family_says();
+    caused_laws::a_bind_connection_has_one_holder_at_a_time();
 }
