@@ -1,6 +1,6 @@
 -- The first group of some physical lines, and what is behind it.
 use Rattle.std.proofs.Common.{◌≡◌, ◌≢◌, ℕ, suc, ◌+◌, ◌&&◌, ◌∙◌, Bool, true, false, not, List, [], ◌∷◌, ◌++◌, map, length, refl, ap, sym, arith, append_assoc, add-zero, if◌then◌else◌, Bor}
-use Rattle.std.specs.Prelude.{filter}
+use Rattle.std.specs.Prelude.{drop, filter}
 use Rattle.std.specs.List.{join_with_byte}
 use Rattle.conf_words.specs.Quoting.{is_space}
 use Rattle.conf_words.specs.Lines.{ConfLine, begins, is_blank, continues, is_number_sign, onto_first_group, groups_from, is_kept, line_of, lines_from, unindented, joined, content_of}
@@ -36,7 +36,7 @@ lines_from-comment : (n : ℕ) (line : List ℕ) (more : List (List ℕ)) → is
 lines_from-comment n line more not_blank comment = ap (λ gs. map line_of (filter is_kept gs)) (groups_from-first n line more not_blank) ∙ rw comment refl
 
 -- another line is kept
-lines_from-kept : (n : ℕ) (line : List ℕ) (more : List (List ℕ)) → is_blank line ≡ false → begins is_number_sign line ≡ false → lines_from n (line ∷ more) ≡ record { number = n; content = content_of (joined (line ∷ continuations more)) } ∷ lines_from (n + 1 + length (continuations more)) (behind more)
+pub lines_from-kept : (n : ℕ) (line : List ℕ) (more : List (List ℕ)) → is_blank line ≡ false → begins is_number_sign line ≡ false → lines_from n (line ∷ more) ≡ record { number = n; content = content_of (joined (line ∷ continuations more)) } ∷ lines_from (n + 1 + length (continuations more)) (behind more)
 lines_from-kept n line more not_blank no_comment = ap (λ gs. map line_of (filter is_kept gs)) (groups_from-first n line more not_blank) ∙ rw no_comment refl
 
 -- a blank line at a place is passed
@@ -117,3 +117,10 @@ lines_from-joined first place text not_blank no_comment next text_is lines_are n
     lines_from-kept first.number first.line.now (physical first.after) not_blank no_comment
     ∙ (λ i. record { number = first.number; content = content_of (sym text_is i) } ∷ lines_from (sym next i + length (continuations (physical first.after))) (behind (physical first.after)))
     ∙ (λ i. record { number = first.number; content = content_of text } ∷ lines_from (sym number_is i) (sym lines_are i))
+
+-- the first line at a place is dropped where it is passed
+pub lines_at-passed : (place passed : Place) (first : First) → BeginsWith place first → Passes first.after passed → lines_at passed ≡ drop 1 (lines_at place)
+lines_at-passed place passed first starts passes =
+    (λ i. lines_from (passes.number i) (passes.lines i))
+    ∙ ((λ i. lines_from (starts.number i + length (continuations (physical first.after))) (behind (physical first.after)))
+    ∙ sym (ap (drop 1) (starts.lines ∙ lines_from-kept first.number first.line.now (physical first.after) starts.not_blank starts.no_comment)))

@@ -3,3 +3,4 @@ pub mod WordSteps
 pub mod Encoded
 pub mod Contents
 pub mod Groups
+pub mod WordPlaces

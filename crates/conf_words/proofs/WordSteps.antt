@@ -5,7 +5,7 @@ use Rattle.std.proofs.lemmas.Str.{encode_ascii}
 use Rattle.std.specs.List.{slice_split, onto_first}
 use Rattle.std.proofs.lemmas.Bool.Decides.{nat_tests}
 use Rattle.conf_words.specs.Quoting.{Byte, is_space, is_escaped, signs_behind, stays_open, parts, has_part, word_of, words_of_parts}
-use Rattle.conf_words.specs.WordMaking.{Adds, Goes, TurnsQuote, begun, onto_word}
+use Rattle.conf_words.specs.WordMaking.{Adds, Goes, TurnsQuote, begun, leaves_open, makes, onto_word}
 use Rattle.conf_words.specs.declared.words.WordMaker.{WordMaker}
 
 -- two parts of a word in front of the words that are split off
@@ -136,3 +136,8 @@ goes_behind old mid new bs kept keeps adds goes = record {
 pub when_ok : {A E P Q : Type 0} (r : Result A E) → (P → Q) → IfOk r (λ _. P) → IfOk r (λ _. Q)
 when_ok (Ok x) follows is = follows is
 when_ok (Err e) follows is = tt
+
+-- a maker that makes of nothing what another makes of a text
+pub nothing_left : (old new : WordMaker) (text left : List ℕ) → length left ≡ 0 → ((rest : List ℕ) → makes old (text ++ rest) ≡ makes new (left ++ rest)) → ((rest : List ℕ) → leaves_open old (text ++ rest) ≡ leaves_open new (left ++ rest)) → Goes old new text
+nothing_left old new text (c ∷ cs) ended words open_quote = absurd (omega arith)
+nothing_left old new text [] ended words open_quote = record { words = words; open_quote = open_quote }

@@ -3,3 +3,4 @@ pub mod Lines
 pub mod Reading
 pub mod WordMaking
 pub mod Examples
+pub mod Locating

@@ -1,8 +1,8 @@
-ghost use Rattle.std.specs.Prelude.{◌≡◌, ◌≤◌, length};
-ghost use Rattle.conf_words.specs.Lines.{conf_lines};
-ghost use Rattle.conf_words.specs.Reading.{Gives};
+ghost use Rattle.std.specs.Prelude.{◌≡◌, ◌≤◌, ◌∷◌, [], length, drop, MatchOption};
+ghost use Rattle.conf_words.specs.Lines.{conf_lines, lines_from};
+ghost use Rattle.conf_words.specs.Reading.{Gives, physical};
 
-use crate::joining::{first_line, join};
+use crate::joining::{First, first_line, join};
 use crate::place::Place;
 use crate::words::{Wordless, Words, read_words};
 use std::alloc::Global;
@@ -80,6 +80,22 @@ impl<'a> LineReader<'a> {
                 kind: 2,
             },
             Err(Wordless::NoMemory) => NextLine::NoMemory,
+        }
+    }
+
+    /// The first physical line of the next line, which is not taken out; `None` where there is none.
+    pub fn first(&self) -> Option<First<'a>>
+        ensures { MatchOption result (self.now ≡ []) (λ first. self.now ≡ lines_from first.number (first.line.now ∷ physical first.after)) }
+    {
+        first_line(self.place)
+    }
+
+    /// Passes the next line, if there is one, whatever it holds. It takes no memory.
+    pub fn pass(&mut self)
+        ensures { self.new ≡ drop 1 self.old }
+    {
+        if let Some(first) = first_line(self.place) {
+            self.place = first.after.pass_continuations();
         }
     }
 }

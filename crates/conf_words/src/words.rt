@@ -1,6 +1,6 @@
-ghost use Rattle.std.specs.Prelude.{◌≡◌, ◌&&◌, [], false, not, IfOk, encode_utf8, string_bytes, unwrap_or};
+ghost use Rattle.std.specs.Prelude.{◌≡◌, ◌&&◌, [], false, not, length, nat_lt, IfOk, encode_utf8, string_bytes, unwrap_or};
 ghost use Rattle.conf_words.specs.Quoting.{is_escaped as gives_itself, is_space};
-ghost use Rattle.conf_words.specs.WordMaking.{Adds, EndsWord, Finishes, Goes, Reads, TurnsQuote, begun};
+ghost use Rattle.conf_words.specs.WordMaking.{Adds, EndsWord, Finishes, Goes, Reads, TurnsQuote, begun, makes};
 ghost use Rattle.conf_words.specs.declared.words.Wordless.TheVariants.{NoMemory as NoRoom};
 
 use lload_names::{Listed, NoMemory, Word};
@@ -37,9 +37,7 @@ pub fn read_words(alloc: Global, line: &[u8]) -> Result<Words, Wordless>
         return Err(Wordless::NotUtf8);
     };
     let mut maker = WordMaker::new(alloc);
-    for c in text.chars() {
-        maker.take(c)?;
-    }
+    maker.take_text(text)?;
     maker.finish()
 }
 
@@ -52,7 +50,7 @@ fn is_escaped(c: char) -> bool
 
 /// The words of a line, as far as its characters were taken.
 #[derive(Drop)]
-struct WordMaker {
+pub struct WordMaker {
     alloc: Global,
     words: Words,
     word: Option<String>,
@@ -61,7 +59,7 @@ struct WordMaker {
 }
 
 impl WordMaker {
-    fn new(alloc: Global) -> WordMaker
+    pub fn new(alloc: Global) -> WordMaker
         ensures words { result.words ≡ [] }
         ensures word { result.word ≡ None }
         ensures quoted { result.quoted ≡ false }
@@ -76,8 +74,26 @@ impl WordMaker {
         }
     }
 
+    /// Takes the characters of a text.
+    pub fn take_text(&mut self, text: &str) -> Result<(), NoMemory>
+        ensures { IfOk result (λ _. Goes self.old self.new text.now) }
+    {
+        for c in text.chars() {
+            self.take(c)?;
+        }
+        Ok(())
+    }
+
+    /// Whether a word, counted from 0, has begun.
+    pub fn has_begun(&self, word: usize) -> bool
+        ensures { result ≡ nat_lt word (length (makes self.now [])) }
+    {
+        let words = self.words.len();
+        word < words || word == words && (self.word.is_some() || self.escaped)
+    }
+
     /// Takes a character. A backslash is kept back until it is known what stands behind it.
-    fn take(&mut self, c: char) -> Result<(), NoMemory>
+    pub fn take(&mut self, c: char) -> Result<(), NoMemory>
         ensures { IfOk result (λ _. Goes self.old self.new (encode_utf8 c)) }
     {
         if !self.escaped {

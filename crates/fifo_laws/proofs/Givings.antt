@@ -64,7 +64,7 @@ found_any t u (x ∷ xs) h = by (u x) h (found_any t u xs)
     by false k ih = ih k
 
 module _ (s : Settings) (op : OpName) where
-  bare_both : (xs ys : List Posted) → is_bare op xs ≡ true → is_bare op ys ≡ true → is_bare op (xs ++ ys) ≡ true
+  pub bare_both : (xs ys : List Posted) → is_bare op xs ≡ true → is_bare op ys ≡ true → is_bare op (xs ++ ys) ≡ true
   bare_both xs ys h k = list_all-append (λ (x : Posted). not (is_forward_of op x.letter)) xs ys ∙ both (is_bare op xs) (is_bare op ys) h k
 
   only_both : (u : ℕ) (xs ys : List Posted) → goes_only op u xs ≡ true → goes_only op u ys ≡ true → goes_only op u (xs ++ ys) ≡ true
@@ -87,7 +87,7 @@ module _ (s : Settings) (op : OpName) where
       by false None = refl
       by false (Some u) = refl
 
-  drops_bare : (p : ClientState) → is_bare op (drops p) ≡ true
+  pub drops_bare : (p : ClientState) → is_bare op (drops p) ≡ true
   drops_bare p = bare_flat (drop_of p) p.rows (drop_bare p)
 
   leave_bare : (p : ClientState) → is_bare op (leave p) ≡ true
@@ -97,18 +97,18 @@ module _ (s : Settings) (op : OpName) where
       by None = refl
       by (Some x) = refl
 
-  endings_bare : (p : ClientState) → is_bare op (endings p) ≡ true
+  pub endings_bare : (p : ClientState) → is_bare op (endings p) ≡ true
   endings_bare p = bare_both (drops p) (leave p) (drops_bare p) (leave_bare p)
 
-  pauses_bare : (c : ℕ) (us : List ℕ) → is_bare op (pause_letters c us) ≡ true
+  pub pauses_bare : (c : ℕ) (us : List ℕ) → is_bare op (pause_letters c us) ≡ true
   pauses_bare c [] = refl
   pauses_bare c (u ∷ us) = pauses_bare c us
 
-  resumes_bare : (c : ℕ) (us : List ℕ) → is_bare op (resume_letters c us) ≡ true
+  pub resumes_bare : (c : ℕ) (us : List ℕ) → is_bare op (resume_letters c us) ≡ true
   resumes_bare c [] = refl
   resumes_bare c (u ∷ us) = resumes_bare c us
 
-  pause_bare : (p : ClientState) (r : ClientRow) (u : ℕ) → is_bare op (pause_at p r u) ≡ true
+  pub pause_bare : (p : ClientState) (r : ClientRow) (u : ℕ) → is_bare op (pause_at p r u) ≡ true
   pause_bare p r u = by (is_bind_row r) (pauses_behind p.pausing u)
     where
       by : (a b : Bool) → is_bare op (elim a [ true ↦ [] | false ↦ elim b [ true ↦ pause_letters p.number (u ∷ []) | false ↦ [] ] ]) ≡ true
@@ -141,13 +141,13 @@ module _ (s : Settings) (op : OpName) where
       by (Some sort) = both (implies (same_op op (name_of p r)) (u == u)) true (implies_by (same_op op (name_of p r)) (u == u) (λ k. eqb_same u)) refl
 
   -- either none of the letters forwards it, or they do so to one connection, and this is known
-  abbrev Either : List Posted → Type 0 → Type 0
+  abbrev pub Either : List Posted → Type 0 → Type 0
   Either xs Known = (is_bare op xs ≡ true) ⊎ ((u : ℕ) × (goes_only op u xs ≡ true) × Known)
 
-  abbrev GoesPinned : ClientState → Message → Check → Type 0
+  abbrev pub GoesPinned : ClientState → Message → Check → Type 0
   GoesPinned p m k = (same_op op (next_name p) ≡ true) × (lets_go_on k ≡ true) × (is_pinned s p m ≡ true)
 
-  in_case : (p : ClientState) (at : ℕ) (m : Message) (k : Check) → Either (message_letters s p at m k) (GoesPinned p m k)
+  pub in_case : (p : ClientState) (at : ℕ) (m : Message) (k : Check) → Either (message_letters s p at m k) (GoesPinned p m k)
   in_case p at m (Ends why) = inl (where_bare (makes_operation m && is_request_of Bind m) (drops p) (drops_bare p))
   in_case p at m Unbinds = inl refl
   in_case p at m (Abandons id) = inl (found_bare p (find (abandons m) p.rows))
@@ -185,10 +185,10 @@ module _ (s : Settings) (op : OpName) where
       asks : AsksKnown c place p.asked
 
     -- each choice was asked for
-    abbrev Asked : ClientState → What → Type 0
+    abbrev pub Asked : ClientState → What → Type 0
     Asked p w = (o : OpName) (a : Answer) → w ≡ what.Chosen o a → list_any (λ x. same_op o x.op) p.asked ≡ true
 
-    was_asked : (l : ClientLedger) (e : Entry) (mark : Option Taken) (rest : Bool) → (is_begun e.what ≡ true → may_be_first l.state e mark ≡ true) → (not (is_unfit (fits_client s) l mark) && rest) ≡ true → Asked l.state e.what
+    pub was_asked : (l : ClientLedger) (e : Entry) (mark : Option Taken) (rest : Bool) → (is_begun e.what ≡ true → may_be_first l.state e mark ≡ true) → (not (is_unfit (fits_client s) l mark) && rest) ≡ true → Asked l.state e.what
     was_asked l e None rest g f o a z = absurd (let bad : false ≡ true = subst (λ w. is_begun w ≡ true → not (must_mark_client e w) ≡ true) z g refl in cc)
     was_asked l e (Some t) rest g f o a z = by t.sender t.letter (subst (λ w. is_begun w ≡ true → marks_client l.state w t.letter ≡ true) z g refl) (is_fit_there (fits_client s) l t rest f)
       where

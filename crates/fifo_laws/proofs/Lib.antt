@@ -1,5 +1,5 @@
 pub mod Givings
 pub mod Quiet
 pub mod Sents
-mod Unanswered
-mod SentOnce
+pub mod Unanswered
+pub mod SentOnce

@@ -1,7 +1,7 @@
 -- A connection answers only what was sent to it: where its list has no Sent of an operation, none of the letters that it
 -- gives is an answer to that one.
 use Rattle.std.proofs.Common.{◌≡◌, ℕ, Bool, true, false, ◌==◌, ◌&&◌, ◌||◌, not, if◌then◌else◌, List, [], ◌∷◌, ◌++◌, refl, ap, ◌∙◌, sym}
-use Rattle.std.specs.Prelude.{Option, Some, None, find, flat_map}
+use Rattle.std.specs.Prelude.{Option, Some, None, find, flat_map, is_none}
 use Rattle.std.specs.List.{list_any, list_all}
 use Rattle.std.specs.Str.{bytes_eq}
 use Rattle.std.proofs.lemmas.List.Folds.{list_all-append}
@@ -24,7 +24,7 @@ use Rattle.lload_names.specs.declared.names.Refusal.TheVariants.{C4, C9}
 use Rattle.lload_names.specs.declared.names.What.{What}
 use Rattle.lload_names.specs.declared.names.What.TheVariants as what
 use Rattle.lload_spec.specs.BadMessages.{is_bad}
-use Rattle.lload_spec.specs.Entries.{sent_message, is_sent}
+use Rattle.lload_spec.specs.Entries.{got_message, sent_message, is_sent}
 use Rattle.lload_spec.specs.Journal.{same_op, same_part}
 use Rattle.lload_spec.specs.Lists.{passes}
 use Rattle.lload_spec.specs.Settings.{Settings}
@@ -66,7 +66,7 @@ quiet_to op q (x ∷ xs) h = by (same_part q x.to) (not_true (is_reply_of op x.l
     by false j k = k
 
 module _ (op : OpName) where
-  quiet_both : (xs ys : List Posted) → is_quiet op xs ≡ true → is_quiet op ys ≡ true → is_quiet op (xs ++ ys) ≡ true
+  pub quiet_both : (xs ys : List Posted) → is_quiet op xs ≡ true → is_quiet op ys ≡ true → is_quiet op (xs ++ ys) ≡ true
   quiet_both xs ys h k = list_all-append (λ (x : Posted). not (is_reply_of op x.letter)) xs ys ∙ both (is_quiet op xs) (is_quiet op ys) h k
 
   quiet_flat : (f : UpRow → List Posted) (rows : List UpRow) → ((r : UpRow) → is_quiet op (f r) ≡ true) → is_quiet op (flat_map f rows) ≡ true
@@ -75,21 +75,21 @@ module _ (op : OpName) where
 
   -- A message.
 
-  own_quiet : (p : ConnectionState) (m : Message) → is_quiet op (letters_alone (own_answer p m)) ≡ true
+  pub own_quiet : (p : ConnectionState) (m : Message) → is_quiet op (letters_alone (own_answer p m)) ≡ true
   own_quiet p m = by (has_code success m.rest)
     where
       by : (b : Bool) → is_quiet op (letters_alone (elim b [ true ↦ comes_up p | false ↦ goes_down p OwnBindFailed ])) ≡ true
       by true = refl
       by false = refl
 
-  row_quiet : (p : ConnectionState) (at : ℕ) (m : Message) (r : UpRow) → is_other op r ≡ true → is_quiet op (letters_alone (row_answer p at m r)) ≡ true
+  pub row_quiet : (p : ConnectionState) (at : ℕ) (m : Message) (r : UpRow) → is_other op r ≡ true → is_quiet op (letters_alone (row_answer p at m r)) ≡ true
   row_quiet p at m r h = by (is_final r.kind m.rest)
     where
       by : (b : Bool) → is_quiet op (letters_alone (elim b [ false ↦ act [] (reply r.op m.rest false None) | true ↦ act [] (reply r.op m.rest true None ++ ended p r.op (latency at r)) ])) ≡ true
       by false = both (is_other op r) true h refl
       by true = both (is_other op r) true h refl
 
-  answered_quiet : (p : ConnectionState) (at : ℕ) (m : Message) → list_all (is_other op) p.rows ≡ true → is_quiet op (letters_alone (answered p at m)) ≡ true
+  pub answered_quiet : (p : ConnectionState) (at : ℕ) (m : Message) → list_all (is_other op) p.rows ≡ true → is_quiet op (letters_alone (answered p at m)) ≡ true
   answered_quiet p at m h = by (is_under_own p m.id) (find (is_under m.id) p.rows) refl
     where
       by : (b : Bool) (o : Option UpRow) → find (is_under m.id) p.rows ≡ o → is_quiet op (letters_alone (elim b [ true ↦ own_answer p m | false ↦ elim o [ None ↦ nothing | Some r ↦ row_answer p at m r ] ])) ≡ true
@@ -97,21 +97,21 @@ module _ (op : OpName) where
       by false None e = refl
       by false (Some r) e = row_quiet p at m r (found (is_other op) (is_under m.id) p.rows r e h)
 
-  holder_quiet : (p : ConnectionState) → is_quiet op (holder_ended p) ≡ true
+  pub holder_quiet : (p : ConnectionState) → is_quiet op (holder_ended p) ≡ true
   holder_quiet p = by p.holder
     where
       by : (o : Option OpName) → is_quiet op (elim o [ None ↦ [] | Some x ↦ ended p x None ]) ≡ true
       by None = refl
       by (Some x) = refl
 
-  keeps_quiet : (s : Settings) (p : ConnectionState) → is_quiet op (letters_alone (keep_back s p)) ≡ true
+  pub keeps_quiet : (s : Settings) (p : ConnectionState) → is_quiet op (letters_alone (keep_back s p)) ≡ true
   keeps_quiet s p = by (p.ids.next == s.id_limit)
     where
       by : (b : Bool) → is_quiet op (letters_alone (act (elim b [ true ↦ what.Own p.ids.next who_am_i ∷ what.Retired ∷ [] | false ↦ what.Own p.ids.next who_am_i ∷ [] ]) (retires s p p.ids.next))) ≡ true
       by true = refl
       by false = refl
 
-  bind_row_quiet : (s : Settings) (p : ConnectionState) (rest : List ℕ) (r : UpRow) → is_other op r ≡ true → is_quiet op (letters_alone (bind_row_answer s p rest r)) ≡ true
+  pub bind_row_quiet : (s : Settings) (p : ConnectionState) (rest : List ℕ) (r : UpRow) → is_other op r ≡ true → is_quiet op (letters_alone (bind_row_answer s p rest r)) ≡ true
   bind_row_quiet s p rest r h = by (is_intermediate rest) (has_code bind_in_progress rest) (keeps_back r rest)
     where
       by : (a b k : Bool) → is_quiet op (letters_alone (elim a [ true ↦ act [] (reply r.op rest false None) | false ↦ elim b [ true ↦ act [] (reply r.op rest true None) | false ↦ elim k [ true ↦ keep_back s p | false ↦ act [] (reply r.op rest true None ++ holder_ended p) ] ] ])) ≡ true
@@ -120,7 +120,7 @@ module _ (op : OpName) where
       by false false true = keeps_quiet s p
       by false false false = both (is_other op r) (is_quiet op (holder_ended p)) h (holder_quiet p)
 
-  who_quiet : (p : ConnectionState) (rest : List ℕ) (r : UpRow) → is_other op r ≡ true → is_quiet op (letters_alone (who_answer p rest r)) ≡ true
+  pub who_quiet : (p : ConnectionState) (rest : List ℕ) (r : UpRow) → is_other op r ≡ true → is_quiet op (letters_alone (who_answer p rest r)) ≡ true
   who_quiet p rest r h = by (is_intermediate rest) (tells_who rest)
     where
       by : (a b : Bool) → is_quiet op (letters_alone (elim a [ true ↦ nothing | false ↦ act [] ((elim b [ true ↦ reply r.op (kept_rest r) true (who_value rest) | false ↦ failed r.op C9 ]) ++ holder_ended p) ])) ≡ true
@@ -128,7 +128,7 @@ module _ (op : OpName) where
       by false true = both (is_other op r) (is_quiet op (holder_ended p)) h (holder_quiet p)
       by false false = holder_quiet p
 
-  bind_quiet : (s : Settings) (p : ConnectionState) (m : Message) → list_all (is_other op) p.rows ≡ true → is_quiet op (letters_alone (bind_answered s p m)) ≡ true
+  pub bind_quiet : (s : Settings) (p : ConnectionState) (m : Message) → list_all (is_other op) p.rows ≡ true → is_quiet op (letters_alone (bind_answered s p m)) ≡ true
   bind_quiet s p m h = by (find (is_under m.id) p.rows) (find (is_under_who m.id) p.rows) refl refl
     where
       by : (a b : Option UpRow) → find (is_under m.id) p.rows ≡ a → find (is_under_who m.id) p.rows ≡ b → is_quiet op (letters_alone (elim a [ Some r ↦ bind_row_answer s p m.rest r | None ↦ elim b [ Some r ↦ who_answer p m.rest r | None ↦ nothing ] ])) ≡ true
@@ -174,16 +174,21 @@ module _ (op : OpName) where
       by true = refl
       by false = refl
 
-  letters_quiet : (s : Settings) (p : ConnectionState) (at : ℕ) (mark : Option Taken) (w : What) → list_all (is_other op) p.rows ≡ true → is_quiet op (connection_letters s p at mark w) ≡ true
-  letters_quiet s p at mark (what.Got id rest) h = got_quiet s p at (record { id = id; rest = rest }) h
-  letters_quiet s p at mark (what.Own id rest) h = quiet_flat (abandoned_ended p rest) p.rows (own_ends p rest)
-  letters_quiet s p at mark (what.Expired o) h = expired_quiet p o p.kind
-  letters_quiet s p at None (what.Missed o) h = refl
-  letters_quiet s p at (Some t) (what.Missed o) h = missed_quiet p o t.letter
-  letters_quiet s p at mark (what.Down why) h =
+  -- what isn't a message
+  pub others_quiet : (s : Settings) (p : ConnectionState) (at : ℕ) (mark : Option Taken) (w : What) → is_none (got_message w) ≡ true → is_quiet op (connection_letters s p at mark w) ≡ true
+  others_quiet s p at mark (what.Got id rest) h = absurd (let bad : false ≡ true = h in cc)
+  others_quiet s p at mark (what.Own id rest) h = quiet_flat (abandoned_ended p rest) p.rows (own_ends p rest)
+  others_quiet s p at mark (what.Expired o) h = expired_quiet p o p.kind
+  others_quiet s p at None (what.Missed o) h = refl
+  others_quiet s p at (Some t) (what.Missed o) h = missed_quiet p o t.letter
+  others_quiet s p at mark (what.Down why) h =
       quiet_both (flat_map (loss p) p.rows) (holder_ended p ++ to Desk (IsDown p.number)) (quiet_flat (loss p) p.rows (loss_quiet p))
       (quiet_both (holder_ended p) (to Desk (IsDown p.number)) (holder_quiet p) refl)
-  letters_quiet s p at mark _ h = refl
+  others_quiet s p at mark _ h = refl
+
+  pub letters_quiet : (s : Settings) (p : ConnectionState) (at : ℕ) (mark : Option Taken) (w : What) → list_all (is_other op) p.rows ≡ true → is_quiet op (connection_letters s p at mark w) ≡ true
+  letters_quiet s p at mark (what.Got id rest) h = got_quiet s p at (record { id = id; rest = rest }) h
+  letters_quiet s p at mark w h = others_quiet s p at mark w refl
 
   -- The rows.
 
@@ -196,7 +201,7 @@ module _ (op : OpName) where
   got_rows at m true rows h = h
   got_rows at m false rows h = all_flat (is_other op) (behind_message at m) rows (λ r k. other_shrinks r (behind_message at m r) (shrinks_message at m r) k) h
 
-  rows_stay : (s : Settings) (e : Entry) (mark : Option Taken) (p : ConnectionState) (w : What) → not (passes (λ x. same_op op x.op) (sent_message w)) ≡ true → (elim mark [ None ↦ true | Some t ↦ marks_connection p w t.letter ]) ≡ true → list_all (is_other op) p.rows ≡ true → list_all (is_other op) (connection_behind s e mark p w).rows ≡ true
+  pub rows_stay : (s : Settings) (e : Entry) (mark : Option Taken) (p : ConnectionState) (w : What) → not (passes (λ x. same_op op x.op) (sent_message w)) ≡ true → (elim mark [ None ↦ true | Some t ↦ marks_connection p w t.letter ]) ≡ true → list_all (is_other op) p.rows ≡ true → list_all (is_other op) (connection_behind s e mark p w).rows ≡ true
   rows_stay s e None p (what.Sent id o rest) n f h = h
   rows_stay s e (Some t) p (what.Sent id o rest) n f h = by t.letter f
     where

@@ -39,7 +39,7 @@ use Rattle.joined_laws.proofs.Walks.{begun}
 use Rattle.fifo_laws.specs.Laws.{FifoSentOnce}
 use Rattle.fifo_laws.proofs.Givings.{goes_only, gives_to_one}
 
-of_client : (sender : PartName) (n : ℕ) → same_part sender (Client n) ≡ true → same_part (Client n) sender ≡ true
+pub of_client : (sender : PartName) (n : ℕ) → same_part sender (Client n) ≡ true → same_part (Client n) sender ≡ true
 of_client (Client m) n h = eqb_sym n m ∙ h
 of_client _ n h = absurd (let bad : false ≡ true = h in cc)
 
@@ -47,11 +47,11 @@ one_number : (w u : ℕ) (p : PartName) → same_part (Connection w) p ≡ true 
 one_number w u (Connection v) h k = eq_eqb w u (same_number w v h ∙ sym (same_number u v k))
 one_number w u _ h k = absurd (let bad : false ≡ true = h in cc)
 
-first_of : (a b c d e f : Bool) → (a && b && c && d && e && f) ≡ true → a ≡ true
+pub first_of : (a b c d e f : Bool) → (a && b && c && d && e && f) ≡ true → a ≡ true
 first_of a b c d e f h = left a b (left (a && b) c (left (a && b && c) d (left (a && b && c && d) e (left (a && b && c && d && e) f h))))
 
 module _ (op : OpName) where
-  abbrev is_own : Sending → Bool
+  abbrev pub is_own : Sending → Bool
   is_own sent = same_op op sent.op
 
   -- The Forward of a Sent was taken from the operation's client.
@@ -68,7 +68,7 @@ module _ (op : OpName) where
       by sender _ i j = absurd (let bad : false ≡ true = i in cc)
   sent_mark s l _ mark rest h k f = absurd (let bad : false ≡ true = h in cc)
 
-  sent_taken : (s : Settings) (l : ConnectionLedger) (ms : List Marked) → each_from (step_connection s) has_connection_mark l.state ms ≡ true → are_fit_from (fits_connection s) (step_connection_ledger s) l ms ≡ true → list_any (λ m. is_sent op m.entry) ms ≡ true → list_any (λ m. is_mark_from (Client op.client) (is_forward_of op) m.mark) ms ≡ true
+  pub sent_taken : (s : Settings) (l : ConnectionLedger) (ms : List Marked) → each_from (step_connection s) has_connection_mark l.state ms ≡ true → are_fit_from (fits_connection s) (step_connection_ledger s) l ms ≡ true → list_any (λ m. is_sent op m.entry) ms ≡ true → list_any (λ m. is_mark_from (Client op.client) (is_forward_of op) m.mark) ms ≡ true
   sent_taken s l [] k f h = absurd (let bad : false ≡ true = h in cc)
   sent_taken s l (m ∷ ms) k f h =
       or_elim (is_sent op m.entry) (list_any (λ x. is_sent op x.entry) ms)
@@ -85,7 +85,7 @@ module _ (op : OpName) where
 
   -- The Sents of a list.
 
-  others_here : (u : ℕ) (before es : List Entry) → list_any (is_sent op) es ≡ false → list_all (λ sent. not (is_own sent)) (sendings_from u before es) ≡ true
+  pub others_here : (u : ℕ) (before es : List Entry) → list_any (is_sent op) es ≡ false → list_all (λ sent. not (is_own sent)) (sendings_from u before es) ≡ true
   others_here u before [] h = refl
   others_here u before (e ∷ es) h = by (sent_message e.what) h (others_here u (before ++ e ∷ []) es)
     where
@@ -155,10 +155,10 @@ module _ (s : Settings) (F : Family) (marked : PartName → List Marked) (h : Jo
   connection : (u : ℕ) → ConnectionShare s u (marked (Connection u))
   connection u = h.shared.shares (Connection u)
 
-  there : (u : ℕ) × (goes_only op u (gives s (Client op.client) (marked (Client op.client))) ≡ true)
+  pub there : (u : ℕ) × (goes_only op u (gives s (Client op.client) (marked (Client op.client))) ≡ true)
   there = gives_to_one s op op.client (marked (Client op.client)) (begun s op.client (marked (Client op.client)) client) (h.fit (Client op.client))
 
-  sent_there : (u : ℕ) → list_any (is_sent op) (F.connection u) ≡ true → (there.0 == u) ≡ true
+  pub sent_there : (u : ℕ) → list_any (is_sent op) (F.connection u) ≡ true → (there.0 == u) ≡ true
   sent_there u k =
       only_there op there.0 u (gives s (Client op.client) (marked (Client op.client))) there.1
       (was_given s F marked h.linked (Client op.client) (Connection u) (is_forward_of op)

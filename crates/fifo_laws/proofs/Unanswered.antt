@@ -40,11 +40,11 @@ none_all t (x ∷ xs) h = by (t x) refl h (none_all t xs)
     by false e k ih = both (not (t x)) _ (ap not e) (ih k)
 
 -- whether the letter of a mark is an answer to this operation
-abbrev is_reply_mark : OpName → Option Taken → Bool
+abbrev pub is_reply_mark : OpName → Option Taken → Bool
 is_reply_mark op mark = passes (λ t. is_reply_of op t.letter) mark
 
 module _ (op : OpName) where
-  none_told : (mark : Option Taken) → not (is_reply_mark op mark) ≡ true → reply_rest op mark ≡ []
+  pub none_told : (mark : Option Taken) → not (is_reply_mark op mark) ≡ true → reply_rest op mark ≡ []
   none_told None h = refl
   none_told (Some t) h = by t.letter h
     where
@@ -69,7 +69,7 @@ module _ (op : OpName) where
     nowhere : (o : OpName) (xs : List Expected) → find (λ x. same_op o x.op && false) xs ≡ None
     nowhere o xs = none_found (λ _. true) (λ x. same_op o x.op && false) xs (λ x k. never (same_op o x.op)) (all_always (λ _. true) xs (λ x. refl))
 
-    from_none : (l : ClientLedger) (o : OpName) (rest : List ℕ) (is_last : Bool) (who : Option (List ℕ)) → passes (λ x. answers x.request rest is_last && is_known s x.request rest who) (find (λ x. same_op o x.op && false) l.expected) ≡ true → false ≡ true
+    pub from_none : (l : ClientLedger) (o : OpName) (rest : List ℕ) (is_last : Bool) (who : Option (List ℕ)) → passes (λ x. answers x.request rest is_last && is_known s x.request rest who) (find (λ x. same_op o x.op && false) l.expected) ≡ true → false ≡ true
     from_none l o rest is_last who j = sym (ap (passes (λ x. answers x.request rest is_last && is_known s x.request rest who)) (nowhere o l.expected)) ∙ j
 
     one_unmarked : (l : ClientLedger) (mark : Option Taken) (rest : Bool) → ((u : ℕ) → not (is_mark_from (Connection u) (is_reply_of op) mark) ≡ true) → (not (is_unfit (fits_client s) l mark) && rest) ≡ true → not (is_reply_mark op mark) ≡ true

@@ -17,6 +17,11 @@ abbrev pub ArePlaces : Slab Row → List (ℕ × ℕ) → Type 0
 ArePlaces s [] = ⊤
 ArePlaces s (p ∷ ps) = IsSome (get s p.1) × AllByRecursion (λ q. q.1 ≢ p.1) ps × ArePlaces s ps
 
+-- the key of the first entry
+abbrev pub first_key : List (ℕ × Row) → Option ℕ
+first_key [] = None
+first_key (e ∷ es) = Some e.0
+
 -- the entries, of which that of the identifier, where it was found, was changed
 abbrev pub with_found : (Row → Row) → ℕ → List (ℕ × Row) → Option Row → List (ℕ × Row)
 with_found change id es None = es

@@ -1,12 +1,16 @@
--- Where a turn of a client begins: each entry of its list but an Out and a Gone is the first of a turn, so that its mark is
--- the letter that the turn took. There the client's rows are its live operations. It follows from what the share says
--- of checks and choices, whatever made the list.
+-- Where a turn of a client begins: each entry of its list but a Gone, and an Out that may be the proxy's own, is the first of
+-- a turn, so that its mark is the letter that the turn took. There the client's rows are its live operations. It follows
+-- from what the share says of checks and choices, whatever made the list.
 use Rattle.std.proofs.Common.{◌≡◌, ℕ, Bool, true, false, ◌==◌, ◌&&◌, not, List, [], ◌∷◌, length, refl, ap, ◌∙◌, subst}
 use Rattle.std.specs.Prelude.{Option, Some, None, cond, find, filter}
 use Rattle.std.specs.List.{list_all}
-use Rattle.ldap_spec.specs.Bodies.{refusal, cancel_answer}
+use Rattle.std.proofs.lemmas.Slice.Eq.{bytes_eq-Decides}
+use Rattle.ldap_spec.specs.Bodies.{refusal, cancel_answer, protocol_error_notice}
 use Rattle.ldap_spec.specs.Kinds.{kind_of}
 use Rattle.ldap_spec.specs.Messages.{Message}
+use Rattle.ldap_spec.specs.Responses.{has_code}
+use Rattle.ldap_spec.specs.Tags.{bind_in_progress}
+use Rattle.lload_names.specs.declared.names.CancelAnswer.{CancelAnswer}
 use Rattle.lload_names.specs.declared.names.CancelAnswer.TheVariants.{S1, C13}
 use Rattle.lload_names.specs.declared.names.EndWhy.{EndWhy}
 use Rattle.lload_names.specs.declared.names.EndWhy.TheVariants.{Left}
@@ -17,7 +21,7 @@ use Rattle.lload_names.specs.declared.names.What.{What}
 use Rattle.lload_names.specs.declared.names.What.TheVariants as what
 use Rattle.lload_spec.specs.Lists.{passes, first_passes, implies}
 use Rattle.lload_spec.specs.Journal.{same_op}
-use Rattle.lload_spec.specs.Entries.{out_message, gone_why, is_gone_by, is_notice}
+use Rattle.lload_spec.specs.Entries.{out_message, gone_why, is_gone_by, is_notice, is_out, is_this}
 use Rattle.lload_spec.specs.Operations.{Operation, operations, live_operations, is_live, is_live_at}
 use Rattle.lload_spec.specs.FirstCheck.{Check, Ends, Unbinds, Abandons, Refuses, Answers, Cancels, GoesOn}
 use Rattle.lload_spec.specs.Caused.{is_followed_up, is_refusal_of, is_cancel_answer_of}
@@ -32,11 +36,16 @@ use Rattle.part_spec.specs.Marked.{Marked, entries}
 use Rattle.client_laws.proofs.Matches.{Match, Matches}
 use Rattle.client_laws.proofs.ClientLives.{is_free_id}
 use Rattle.client_share_laws.proofs.OperationNames.{are_apart, named_apart}
+use Rattle.joined_laws.proofs.OwnCodes.{notice_ends, refusal_ends, canceled_ends}
 
 -- What is due behind the first entry of a turn: Outs, and a Gone at its end.
 
+-- an Out that may be the proxy's own: no saslBindInProgress
+abbrev pub is_own_rest : List ℕ → Bool
+is_own_rest rest = not (has_code bind_in_progress rest)
+
 abbrev pub is_out_what : What → Bool
-is_out_what w = passes (λ _. true) (out_message w)
+is_out_what w = passes (λ m. is_own_rest m.rest) (out_message w)
 
 abbrev pub is_gone_what : What → Bool
 is_gone_what w = passes (λ _. true) (gone_why w)
@@ -77,6 +86,21 @@ sort_begun x w h = by (is_gone_what x) h
     by true e = ap (λ g. not g && not (is_out_what w)) e
     by false e = out (is_gone_what w) (is_out_what w) e
 
+is_own_out : (id : ℕ) (answer : List ℕ) (e : Entry) → has_code bind_in_progress answer ≡ false → is_out id answer e ≡ true → is_out_what e.what ≡ true
+is_own_out id answer e h k = by (out_message e.what) k
+  where
+    by : (o : Option Message) → passes (is_this id answer) o ≡ true → passes (λ m. is_own_rest m.rest) o ≡ true
+    by None j = absurd (let bad : false ≡ true = j in cc)
+    by (Some m) j = ap (λ r. is_own_rest r) ((bytes_eq-Decides m.rest answer).0 (right (m.id == id) _ j)) ∙ ap not h
+
+own_refusal : (which : Refusal) (id : ℕ) (k : Option OpKind) (e : Entry) → is_refusal_of which id k e ≡ true → is_out_what e.what ≡ true
+own_refusal which id None e h = absurd (let bad : false ≡ true = h in cc)
+own_refusal which id (Some kind) e h = is_own_out id (refusal kind which) e (refusal_ends kind which) h
+
+own_canceled : (which : CancelAnswer) (id : ℕ) (k : Option OpKind) (e : Entry) → is_cancel_answer_of which id k e ≡ true → is_out_what e.what ≡ true
+own_canceled which id None e h = absurd (let bad : false ≡ true = h in cc)
+own_canceled which id (Some kind) e h = is_own_out id (cancel_answer kind which) e (canceled_ends kind which) h
+
 pub sort_free : (p : ClientState) (x w : What) → is_sort x w ≡ true → is_free_id p w ≡ true
 sort_free p x w h = by (is_gone_what x) h
   where
@@ -100,12 +124,12 @@ first_follows x t (m ∷ ms) f h = both (is_sort x m.entry.what) true (f m.entry
 
 pub refusal_follows : (i j : ℕ) (which : Refusal) (k : Option OpKind) (ms : List Marked) → first_passes (is_refusal_of which j k) (entries ms) ≡ true → follows (elim k [ None ↦ [] | Some kind ↦ what.Out i (refusal kind which) ∷ [] ]) ms ≡ true
 refusal_follows i j which None ms h = refl
-refusal_follows i j which (Some kind) ms h = first_follows (what.Out i (refusal kind which)) (is_refusal_of which j (Some kind)) ms (λ e k. passes_some _ (out_message e.what) k) h
+refusal_follows i j which (Some kind) ms h = first_follows (what.Out i (refusal kind which)) (is_refusal_of which j (Some kind)) ms (λ e k. own_refusal which j (Some kind) e k) h
 
 pub followed : (m : Message) (k : Check) (ms : List Marked) → is_followed_up m (entries ms) k ≡ true → follows (whats_by m k) ms ≡ true
 followed m (Ends why) [] h = absurd (let bad : false ≡ true = h in cc)
 followed m (Ends why) (x ∷ ms) h =
-    both (is_out_what x.entry.what) (follows (what.Gone why ∷ []) ms) (passes_some _ (out_message x.entry.what) (left (is_notice x.entry) _ h))
+    both (is_out_what x.entry.what) (follows (what.Gone why ∷ []) ms) (is_own_out 0 protocol_error_notice x.entry notice_ends (left (is_notice x.entry) _ h))
     (first_follows (what.Gone why) (is_gone_by why) ms (λ e k. passes_some _ (gone_why e.what) k) (right (is_notice x.entry) _ h))
 followed m Unbinds ms h = first_follows (what.Gone Left) (is_gone_by Left) ms (λ e k. passes_some _ (gone_why e.what) k) h
 followed m (Abandons id) ms h = refl
@@ -114,15 +138,15 @@ followed m (Answers which) ms h = by (kind_of m.rest) h
   where
     by : (k : Option OpKind) → first_passes (is_cancel_answer_of which m.id k) (entries ms) ≡ true → follows (canceled m.id k which) ms ≡ true
     by None j = refl
-    by (Some kind) j = first_follows (what.Out m.id (cancel_answer kind which)) (is_cancel_answer_of which m.id (Some kind)) ms (λ e k. passes_some _ (out_message e.what) k) j
+    by (Some kind) j = first_follows (what.Out m.id (cancel_answer kind which)) (is_cancel_answer_of which m.id (Some kind)) ms (λ e k. own_canceled which m.id (Some kind) e k) j
 followed m (Cancels id its_kind) [] h = absurd (let bad : false ≡ true = h in cc)
 followed m (Cancels id its_kind) (x ∷ ms) h =
-    both (is_out_what x.entry.what) (follows (canceled m.id (kind_of m.rest) S1) ms) (passes_some _ (out_message x.entry.what) (left (is_cancel_answer_of C13 id (Some its_kind) x.entry) _ h))
+    both (is_out_what x.entry.what) (follows (canceled m.id (kind_of m.rest) S1) ms) (own_canceled C13 id (Some its_kind) x.entry (left (is_cancel_answer_of C13 id (Some its_kind) x.entry) _ h))
     (by (kind_of m.rest) (right (is_cancel_answer_of C13 id (Some its_kind) x.entry) _ h))
   where
     by : (k : Option OpKind) → first_passes (is_cancel_answer_of S1 m.id k) (entries ms) ≡ true → follows (canceled m.id k S1) ms ≡ true
     by None j = refl
-    by (Some sort) j = first_follows (what.Out m.id (cancel_answer sort S1)) (is_cancel_answer_of S1 m.id (Some sort)) ms (λ e k. passes_some _ (out_message e.what) k) j
+    by (Some sort) j = first_follows (what.Out m.id (cancel_answer sort S1)) (is_cancel_answer_of S1 m.id (Some sort)) ms (λ e k. own_canceled S1 m.id (Some sort) e k) j
 followed m GoesOn ms h = refl
 
 -- The operation of a row.

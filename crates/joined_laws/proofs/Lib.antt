@@ -1,3 +1,4 @@
+pub mod OwnCodes
 pub mod Taken
 pub mod Begun
 pub mod Walks

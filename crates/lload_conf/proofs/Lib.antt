@@ -6,3 +6,4 @@ pub mod Repeats
 pub mod Tables
 pub mod Texts
 mod RunSettings
+pub mod Findings

@@ -1,10 +1,12 @@
 -- Arguments that set a key again.
-use Rattle.std.proofs.Common.{◌≡◌, ℕ, ◌+◌, ◌<◌, ◌||◌, not, Bool, true, false, cond, List, [], ◌∷◌, ◌++◌, length, take, drop, get_or, refl, ap, sym, ◌∙◌}
+use Rattle.std.proofs.Common.{◌≡◌, ℕ, suc, ◌+◌, ◌<◌, ◌||◌, not, Bool, true, false, cond, List, [], ◌∷◌, ◌++◌, length, take, drop, get_or, refl, ap, sym, ◌∙◌, add-one, append-nil, append_assoc, arith, length-take-le}
+use Rattle.std.specs.Prelude.{Some, is_some}
+use Rattle.std.proofs.Math.Seq.{drop-cons}
 use Rattle.std.specs.List.{list_any}
 use Rattle.std.specs.Str.{bytes_eq, str_eq_ignore_ascii_case, str_to_ascii_lowercase}
-use Rattle.std.proofs.lemmas.List.{take_more, take-append-drop}
+use Rattle.std.proofs.lemmas.List.{take_more}
 use Rattle.std.proofs.lemmas.List.Folds.{list_any-append}
-use Rattle.lload_conf.specs.Faults.{repeats_key}
+use Rattle.lload_conf.specs.Faults.{first_repeat, repeat_behind, repeats_key}
 use Rattle.lload_conf.specs.Line.{Words, key_of}
 
 -- whether an argument has this key, which is given in lower case
@@ -58,15 +60,34 @@ told-new told true is added = cc
 up_to : (words : Words) (i : ℕ) (word : List ℕ) → i < length words → word ≡ get_or words i word → take (i + 1) words ≡ take i words ++ word ∷ []
 up_to words i word inside is = take_more words i word inside ∙ ap (λ w. take i words ++ w ∷ []) (sym is)
 
+-- what is left at a place
+left_at : (words : Words) (i : ℕ) (word : List ℕ) → i < length words → word ≡ get_or words i word → drop i words ≡ word ∷ drop (i + 1) words
+left_at words i word inside is = drop-cons words i word inside ∙ ((λ j. sym is j ∷ drop (suc i) words) ∙ ap (λ n. word ∷ drop n words) (sym (add-one i)))
+
 -- the key of the argument at the place stood before it
-pub repeats-here : (words : Words) (i : ℕ) (word : List ℕ) → i < length words → word ≡ get_or words i word → list_any (has_lower (lower_key word)) (take i words) ≡ true → repeats_key words ≡ true
-repeats-here words i word inside is stood =
-    let front = ap repeats_key (up_to words i word inside is) ∙ (repeats-more (take i words) word ∙ either_true (repeats_key (take i words)) (list_any (has_lower (lower_key word)) (take i words)) stood) in
-    ap repeats_key (sym (take-append-drop (i + 1) words)) ∙ repeats-append (take (i + 1) words) (drop (i + 1) words) front
+pub repeats-here : (words : Words) (i at : ℕ) (word : List ℕ) → i < length words → word ≡ get_or words i word → at ≡ i → list_any (has_lower (lower_key word)) (take i words) ≡ true → repeat_behind (take i words) (drop i words) ≡ first_repeat words → Some at ≡ first_repeat words
+repeats-here words i at word inside is count stood rest =
+    ap (λ n. Some n) (count ∙ sym (length-take-le i words (omega arith)))
+    ∙ (sym (ap (repeat_behind (take i words)) (left_at words i word inside is) ∙ rw stood refl) ∙ rest)
 
 -- and it didn't
-pub repeats-past : (words : Words) (i : ℕ) (word : List ℕ) → i < length words → word ≡ get_or words i word → repeats_key (take i words) ≡ false → list_any (has_lower (lower_key word)) (take i words) ≡ false → repeats_key (take (i + 1) words) ≡ false
-repeats-past words i word inside is none new = ap repeats_key (up_to words i word inside is) ∙ (repeats-more (take i words) word ∙ rw (none, new) refl)
+pub repeats-past : (words : Words) (i : ℕ) (word : List ℕ) → i < length words → word ≡ get_or words i word → list_any (has_lower (lower_key word)) (take i words) ≡ false → repeat_behind (take (i + 1) words) (drop (i + 1) words) ≡ repeat_behind (take i words) (drop i words)
+repeats-past words i word inside is new =
+    ap (λ front. repeat_behind front (drop (i + 1) words)) (up_to words i word inside is)
+    ∙ sym (ap (repeat_behind (take i words)) (left_at words i word inside is) ∙ rw new refl)
+
+-- whether a key repeats, by the first that does
+repeats-behind : (before words : Words) → repeats_key before ≡ false → is_some (repeat_behind before words) ≡ repeats_key (before ++ words)
+repeats-behind before [] none = sym (ap repeats_key (append-nil before) ∙ none)
+repeats-behind before (word ∷ words) none = from_test (list_any (has_lower (lower_key word)) before) refl (repeats-behind (before ++ word ∷ []) words) where
+  from_test : (t : Bool) → list_any (has_lower (lower_key word)) before ≡ t → (repeats_key (before ++ word ∷ []) ≡ false → is_some (repeat_behind (before ++ word ∷ []) words) ≡ repeats_key ((before ++ word ∷ []) ++ words)) → is_some (repeat_behind before (word ∷ words)) ≡ repeats_key (before ++ word ∷ words)
+  from_test true stood later =
+      let front = repeats-more before word ∙ either_true (repeats_key before) (list_any (has_lower (lower_key word)) before) stood in
+      rw stood (sym (ap repeats_key (sym (append_assoc before (word ∷ []) words)) ∙ repeats-append (before ++ word ∷ []) words front))
+  from_test false new later = rw new (later (repeats-more before word ∙ rw (none, new) refl) ∙ ap repeats_key (append_assoc before (word ∷ []) words))
+
+pub repeats-first : (words : Words) → is_some (first_repeat words) ≡ repeats_key words
+repeats-first words = repeats-behind [] words refl
 
 -- the test of one more argument
 either-cond : (a b : Bool) → cond b true a ≡ (a || (b || false))

@@ -83,10 +83,11 @@ with_entry draft d words = record {
 abbrev pub with_words : Draft → Words → Draft
 with_words draft line = option_map_or (λ entry. with_entry draft entry.0 (arguments_of line)) (entry_of line) draft
 
--- a line's fault is this, and the draft has it where it has none
+-- a line's fault is this, and the draft has it where it has none, and is as it was where it has one
 pub record Takes (before : Draft) (line : Words) (fault : Option ℕ) (after : Draft) : Type 0 where
   pub kind : fault ≡ draft_fault before line
   pub taken : fault ≡ None → after ≡ with_words before line
+  pub left_out : (kind : ℕ) → fault ≡ Some kind → after ≡ before
 
 -- the configuration of a draft
 abbrev pub finished : Draft → Config

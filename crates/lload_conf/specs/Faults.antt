@@ -1,6 +1,6 @@
 -- The faults of a line of a configuration. Each kind is a test of a line and of what stood before it; of those that hold,
 -- the lowest counts.
-use Rattle.std.specs.Prelude.{ℕ, ◌+◌, ◌==◌, ◌&&◌, ◌||◌, not, Bool, true, false, nat_lt, nat_le, if◌then◌else◌, List, [], ◌∷◌, length, codes, bytes_eq, Option, Some, None, is_some, is_none}
+use Rattle.std.specs.Prelude.{ℕ, ◌+◌, ◌==◌, ◌&&◌, ◌||◌, not, Bool, true, false, nat_lt, nat_le, if◌then◌else◌, List, [], ◌∷◌, ◌++◌, length, codes, bytes_eq, Option, Some, None, is_some, is_none}
 use Rattle.std.specs.List.{list_any}
 use Rattle.std.specs.Option.{option_map_or}
 use Rattle.std.specs.Str.{str_eq_ignore_ascii_case}
@@ -74,6 +74,16 @@ has_unknown arguments words = list_any (is_unknown_argument arguments) words
 abbrev pub repeats_key : Words → Bool
 repeats_key [] = false
 repeats_key (word ∷ words) = list_any (λ later. str_eq_ignore_ascii_case (key_of word) (key_of later)) words || repeats_key words
+
+-- the index of the first argument whose key an argument before it has, where `before` stands before these
+abbrev pub repeat_behind : Words → Words → Option ℕ
+repeat_behind before [] = None
+repeat_behind before (word ∷ words) =
+    if list_any (λ earlier. str_eq_ignore_ascii_case (key_of earlier) (key_of word)) before then Some (length before) else repeat_behind (before ++ word ∷ []) words
+
+-- the same of all arguments
+abbrev pub first_repeat : Words → Option ℕ
+first_repeat words = repeat_behind [] words
 
 abbrev pub repeats : Arguments → Words → Bool
 repeats (Pairs keys) words = repeats_key words

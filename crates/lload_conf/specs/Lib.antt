@@ -8,3 +8,5 @@ pub mod Settings
 pub mod Table
 pub mod Values
 pub mod Within
+pub mod AllFaults
+pub mod FaultyWord

@@ -84,7 +84,7 @@ abbrev pub left_out : Entry
 left_out = (directive.LeftOut, Unread)
 
 abbrev pub noted : Entry
-noted = (directive.Noted, Each takes.Text)
+noted = (directive.Noted, Each takes.Noted)
 
 -- the directives; those that are left out, and those that begin with `TLS`, are known by name alone
 abbrev pub directives : List (List ℕ × Entry)
@@ -134,9 +134,9 @@ keys_of Bind =
     ∷ (codes "binddn", takes.Text)
     ∷ (codes "credentials", takes.Text)
     ∷ (codes "timeout", takes.Number timeout)
-    ∷ (codes "keepalive", takes.Text)
-    ∷ (codes "network-timeout", takes.Text)
-    ∷ (codes "tcp-user-timeout", takes.Text)
+    ∷ (codes "keepalive", takes.Noted)
+    ∷ (codes "network-timeout", takes.Noted)
+    ∷ (codes "tcp-user-timeout", takes.Noted)
     ∷ left_out_keys
 keys_of Backend =
     (codes "uri", takes.Uri)

@@ -1,6 +1,6 @@
-ghost use Rattle.std.specs.Prelude.{◌≡◌, ◌≤◌, ◌∷◌, not, false, length, IfOk, MatchOption, Some, None, option_copied};
+ghost use Rattle.std.specs.Prelude.{◌≡◌, ◌<◌, ◌≤◌, ◌∷◌, not, false, length, IfOk, IfSome, MatchOption, Some, None, option_copied};
 ghost use Rattle.std.specs.List.{list_any};
-ghost use Rattle.lload_conf.specs.Faults.{entry_fault, has_key, has_left_out, has_unknown, is_action, has_unreadable, has_wrong_count, is_left_out, is_left_out_argument, is_unknown, is_unknown_argument, is_unreadable, is_unreadable_argument, lacks_key, lacks_tier, passes_limit, places_of, repeats, repeats_key, stands_twice};
+ghost use Rattle.lload_conf.specs.Faults.{entry_fault, has_key, has_left_out, has_unknown, is_action, has_unreadable, has_wrong_count, is_left_out, is_left_out_argument, is_unknown, is_unknown_argument, is_unreadable, is_unreadable_argument, lacks_key, lacks_tier, passes_limit, first_repeat, places_of, repeats, stands_twice};
 ghost use Rattle.lload_conf.specs.Line.{argument_of, argument_read, key_of, number_of, second_of, value_of, value_under};
 
 use crate::table::{
@@ -90,7 +90,7 @@ fn has_unreadable_argument(arguments: Arguments, words: &[Word]) -> bool
         .any(|word| is_unreadable_argument(arguments, word))
 }
 
-fn is_unreadable_argument(arguments: Arguments, word: &Word) -> bool
+pub fn is_unreadable_argument(arguments: Arguments, word: &Word) -> bool
     ensures { result ≡ is_unreadable_argument arguments word.now }
 {
     match argument_read(arguments, word) {
@@ -139,7 +139,7 @@ fn has_unknown_argument(arguments: Arguments, words: &[Word]) -> bool
         .any(|word| is_unknown_argument(arguments, word))
 }
 
-fn is_unknown_argument(arguments: Arguments, word: &Word) -> bool
+pub fn is_unknown_argument(arguments: Arguments, word: &Word) -> bool
     ensures { result ≡ is_unknown_argument arguments word.now }
 {
     match argument_read(arguments, word) {
@@ -174,7 +174,7 @@ fn repeats(alloc: Global, arguments: Arguments, words: &[Word]) -> Result<bool, 
     ensures { IfOk result (λ twice. twice ≡ repeats arguments words.now) }
 {
     match arguments {
-        Arguments::Pairs(_) => repeats_key(alloc, words),
+        Arguments::Pairs(_) => Ok(first_repeat(alloc, words)?.is_some()),
         _ => Ok(false),
     }
 }
@@ -201,7 +201,7 @@ fn has_left_out_argument(arguments: Arguments, words: &[Word]) -> bool
         .any(|word| is_left_out_argument(arguments, word))
 }
 
-fn is_left_out_argument(arguments: Arguments, word: &Word) -> bool
+pub fn is_left_out_argument(arguments: Arguments, word: &Word) -> bool
     ensures { result ≡ is_left_out_argument arguments word.now }
 {
     match argument_read(arguments, word) {
@@ -273,7 +273,7 @@ pub fn places_of(words: &[Word]) -> u32
 
 /// What an argument may be, and its text; `None` where it is to be a key with its value, and has no `=` or an unknown
 /// key.
-fn argument_read(arguments: Arguments, word: &Word) -> Option<(Takes, &str)>
+pub fn argument_read(arguments: Arguments, word: &Word) -> Option<(Takes, &str)>
     ensures { MatchOption result (argument_read arguments word.now ≡ None) (λ read. argument_read arguments word.now ≡ Some (read.0, read.1.now)) }
 {
     match arguments {
@@ -336,23 +336,26 @@ fn value_under<'a>(word: &'a Word, name: &str) -> Option<&'a str>
     }
 }
 
-/// Whether two of some arguments have one key.
-fn repeats_key(alloc: Global, words: &[Word]) -> Result<bool, NoMemory>
-    ensures { IfOk result (λ twice. twice ≡ repeats_key words.now) }
+/// The index of the first argument whose key an argument before it has.
+pub fn first_repeat(alloc: Global, words: &[Word]) -> Result<Option<usize>, NoMemory>
+    ensures is { IfOk result (λ index. index ≡ first_repeat words.now) }
+    ensures inside { IfOk result (λ index. IfSome index (λ i. i < length words.now)) }
 {
     let mut seen = HashSet::new(alloc);
+    let mut index = 0;
     for word in words {
         let mut key = String::from_str(alloc, key_of(word))?;
         key.make_ascii_lowercase();
         if !seen.insert(key)? {
-            return Ok(true);
+            return Ok(Some(index));
         }
+        index += 1;
     }
-    Ok(false)
+    Ok(None)
 }
 
 /// The key of an argument: what stands before its first `=`.
-fn key_of(word: &Word) -> &str
+pub fn key_of(word: &Word) -> &str
     ensures { result.now ≡ key_of word.now }
 {
     match parts(word.as_str(), '=') {

@@ -1,4 +1,4 @@
-ghost use Rattle.std.specs.Prelude.{◌≡◌, ◌≢◌, ◌≤◌, [], length, Err, IfOk};
+ghost use Rattle.std.specs.Prelude.{◌≡◌, ◌≢◌, ◌≤◌, ◌+◌, [], length, Err, IfOk};
 ghost use Rattle.lload_conf.specs.Answers.{Answers, IsConfig};
 ghost use Rattle.lload_conf.specs.Configuration.{configuration};
 ghost use Rattle.lload_conf.specs.Draft.{answer_of_draft};
@@ -66,9 +66,17 @@ fn at_end(text: &[u8], draft: Draft) -> Result<Config, ConfFault>
 {
     if draft.backends() == 0 {
         return Err(ConfFault::Line {
-            line: line_count(text) + 1,
+            line: line_behind(text),
             kind: 10,
         });
     }
     Ok(draft.finish()?)
+}
+
+/// The number of the line behind the last of a text.
+pub fn line_behind(text: &[u8]) -> u32
+    requires { length text.now ≤ 1048576 }
+    ensures { result ≡ line_count text.now + 1 }
+{
+    line_count(text) + 1
 }

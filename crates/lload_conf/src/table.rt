@@ -55,6 +55,8 @@ pub enum Keys {
 pub enum Takes {
     /// Any text.
     Text,
+    /// Any text, and it has no effect.
+    Noted,
     /// A number in a range.
     Number(Number),
     /// A number of seconds, which may be negative.
@@ -186,7 +188,7 @@ pub const OCTET: Number = Number {
 type Table<T, const N: usize> = [(&'static str, T); N];
 
 /// The directives of lloadd.conf(5). Those that begin with `TLS` are left out too.
-const DIRECTIVES: Table<(Directive, Arguments), 25> = [
+pub const DIRECTIVES: Table<(Directive, Arguments), 25> = [
     ("bindconf", (Directive::BindConf, Pairs(Keys::Bind))),
     ("tier", (Directive::Tier, One(Takes::Kind))),
     (
@@ -233,12 +235,12 @@ const DIRECTIVES: Table<(Directive, Arguments), 25> = [
         "restrict_control",
         (Directive::RestrictControl, Restriction),
     ),
-    ("loglevel", (Directive::Noted, Each(Takes::Text))),
-    ("pidfile", (Directive::Noted, Each(Takes::Text))),
-    ("argsfile", (Directive::Noted, Each(Takes::Text))),
-    ("threads", (Directive::Noted, Each(Takes::Text))),
-    ("concurrency", (Directive::Noted, Each(Takes::Text))),
-    ("max_pdus_per_cycle", (Directive::Noted, Each(Takes::Text))),
+    ("loglevel", (Directive::Noted, Each(Takes::Noted))),
+    ("pidfile", (Directive::Noted, Each(Takes::Noted))),
+    ("argsfile", (Directive::Noted, Each(Takes::Noted))),
+    ("threads", (Directive::Noted, Each(Takes::Noted))),
+    ("concurrency", (Directive::Noted, Each(Takes::Noted))),
+    ("max_pdus_per_cycle", (Directive::Noted, Each(Takes::Noted))),
     ("include", (Directive::LeftOut, Unread)),
     ("listen", (Directive::LeftOut, Unread)),
     ("moduleload", (Directive::LeftOut, Unread)),
@@ -248,14 +250,14 @@ const DIRECTIVES: Table<(Directive, Arguments), 25> = [
 ];
 
 /// The keys of `bindconf`. Those that begin with `tls` are left out too.
-const BIND_KEYS: Table<Takes, 13> = [
+pub const BIND_KEYS: Table<Takes, 13> = [
     ("bindmethod", Takes::Method),
     ("binddn", Takes::Text),
     ("credentials", Takes::Text),
     ("timeout", Takes::Number(TIMEOUT)),
-    ("keepalive", Takes::Text),
-    ("network-timeout", Takes::Text),
-    ("tcp-user-timeout", Takes::Text),
+    ("keepalive", Takes::Noted),
+    ("network-timeout", Takes::Noted),
+    ("tcp-user-timeout", Takes::Noted),
     ("starttls", Takes::LeftOut),
     ("saslmech", Takes::LeftOut),
     ("authcid", Takes::LeftOut),
@@ -265,7 +267,7 @@ const BIND_KEYS: Table<Takes, 13> = [
 ];
 
 /// The keys of `backend-server`. Those that begin with `tls` are left out too.
-const BACKEND_KEYS: Table<Takes, 13> = [
+pub const BACKEND_KEYS: Table<Takes, 13> = [
     ("uri", Takes::Uri),
     ("numconns", Takes::Number(NUMCONNS)),
     ("bindconns", Takes::Number(BINDCONNS)),

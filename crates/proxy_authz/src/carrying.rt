@@ -1,6 +1,6 @@
 ghost use Rattle.std.specs.Prelude.{◌≡◌, ◌+◌, ◌≤◌, length, IfOk};
 ghost use Rattle.std.specs.Option.{option_copied};
-ghost use Rattle.ldap_controls.specs.Lists.{octets_of};
+ghost use Rattle.ldap_controls.specs.Lists.{control_view, octets_of};
 ghost use Rattle.lload_spec.specs.Identity.{identity_control};
 ghost use Rattle.lload_spec.specs.Settings.{Settings, is_privileged};
 ghost use Rattle.proxy_authz.specs.Carrying.{own_name, Carries};
@@ -37,10 +37,16 @@ pub fn proxied(
     if privileged(who, binddn) {
         return Body::from_slice(alloc, rest);
     }
-    let identity = Control {
+    with_first(alloc, rest, &identity_control(who))
+}
+
+/// The critical control that carries an identity.
+fn identity_control(who: &[u8]) -> Control<'_>
+    ensures { control_view result ≡ identity_control who.now }
+{
+    Control {
         oid: PROXIED_AUTHORIZATION.as_bytes(),
         critical: true,
         value: Some(who),
-    };
-    with_first(alloc, rest, &identity)
+    }
 }

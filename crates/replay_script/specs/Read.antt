@@ -1,8 +1,10 @@
 -- What the reader of lines says of its steps.
-use Rattle.std.specs.Prelude.{◌≡◌, ℕ, ◌%◌, ◌==◌, ◌&&◌, Bool, if◌then◌else◌, codes, length, List, [], ◌∷◌, Option, Some, None, IsSome, Result, Ok, Err}
+use Rattle.std.specs.Prelude.{◌≡◌, ℕ, ◌%◌, ◌==◌, ◌&&◌, Bool, true, false, if◌then◌else◌, codes, length, List, [], ◌∷◌, Option, Some, None, IsSome, IsTrue, Result, Ok, Err}
 use Rattle.std.specs.Char.{is_ascii_hexdigit}
 use Rattle.std.specs.List.{list_all}
 use Rattle.std.specs.Str.{bytes_eq}
+use Rattle.lload_names.specs.declared.command.Command.{Command}
+use Rattle.lload_names.specs.declared.command.Command.TheVariants.{ClientBytes, UpBytes}
 use Rattle.lload_spec.specs.Script.{bytes_of}
 use Rattle.replay_script.specs.declared.read.LineFault.{LineFault}
 use Rattle.replay_script.specs.declared.read.LineFault.TheVariants.{NotACommand, NoMemory}
@@ -12,6 +14,24 @@ abbrev pub Reads : {A : Type 0} → Result A LineFault → Option A → Type 0
 Reads (Ok x) there = there ≡ Some x
 Reads (Err NotACommand) there = there ≡ None
 Reads (Err NoMemory) there = IsSome there
+
+-- whether a command holds octets
+abbrev pub holds_octets : Command → Bool
+holds_octets (ClientBytes _ _) = true
+holds_octets (UpBytes _ _) = true
+holds_octets _ = false
+
+-- there is a command, and it holds octets
+abbrev pub HoldsOctets : Option Command → Type 0
+HoldsOctets None = ⊥
+HoldsOctets (Some command) = IsTrue (holds_octets command)
+
+-- the result is the command that is there, it refuses exactly where none is there, and else there was no memory for
+-- its octets
+abbrev pub ReadsCommand : Result Command LineFault → Option Command → Type 0
+ReadsCommand (Ok command) there = there ≡ Some command
+ReadsCommand (Err NotACommand) there = there ≡ None
+ReadsCommand (Err NoMemory) there = HoldsOctets there
 
 -- the bytes that the second of two words says in hexadecimal behind the word `bytes`
 abbrev pub fed_bytes : List (List ℕ) → Option (List ℕ)

@@ -45,12 +45,13 @@ impl Model for Maker {
     ghost use Rattle.std.specs.Prelude.{◌≤◌, ◌+◌, ◌++◌, List};
     ghost use Rattle.lload_names.specs.declared.command.Command.{Command};
     ghost use Rattle.replay_script.specs.Made.{rounds_from};
+    ghost use Rattle.replay_script.specs.declared.maker.TheConstants.{ROUNDS_LIMIT};
 
     ghost Value = { List Command };
 
     ghost view = { λ m. m.waiting.items ++ rounds_from m.left m.next m.words };
 
-    ghost invariant = { λ m. (1 ≤ m.next) × (m.next + m.left ≤ 100001) };
+    ghost invariant = { λ m. (1 ≤ m.next) × (m.next + m.left ≤ ROUNDS_LIMIT + 1) };
 }
 
 impl Maker {

@@ -5,7 +5,7 @@ ghost use Rattle.std.specs.Option.{option_and_then};
 ghost use Rattle.std.specs.Str.{bytes_eq};
 ghost use Rattle.lload_spec.specs.Script.{alone, bytes_of, client_command, command_of, command_of_words, event_command, of_number, part_of, step_command, step_from, step_tick, up_command};
 ghost use Rattle.lload_names.specs.declared.command.Command.TheVariants.{Tick, SetWord, Settle};
-ghost use Rattle.replay_script.specs.Read.{fed_bytes, hex_test, Reads};
+ghost use Rattle.replay_script.specs.Read.{fed_bytes, hex_test, HoldsOctets, Reads, ReadsCommand};
 
 use crate::numbers::{read_part_number, read_u32, read_u64};
 use crate::words::Words;
@@ -22,17 +22,18 @@ pub enum LineFault {
 }
 
 /// Reads a line of a script, without its end, by the grammar of scripts (this project's own). `NotACommand` comes
-/// exactly where the line isn't in the grammar; `NoMemory` comes only where it is.
+/// exactly where the line isn't in the grammar; `NoMemory` comes only where it is a command that holds octets.
 pub fn read_line(alloc: Global, bytes: &[u8]) -> Result<Command, LineFault>
     ensures command { IfOk result (λ command. command_of bytes.now ≡ Some command) }
     ensures refused { (result ≡ Err LineFault.NotACommand) ↔ (command_of bytes.now ≡ None) }
+    ensures no_memory { result ≡ Err LineFault.NoMemory → HoldsOctets (command_of bytes.now) }
 {
     read_words(alloc, Words::of(bytes))
 }
 
 /// Reads the words of a line.
 fn read_words(alloc: Global, mut words: Words) -> Result<Command, LineFault>
-    ensures { Reads result (command_of_words words.entry) }
+    ensures { ReadsCommand result (command_of_words words.entry) }
 {
     let Some(first) = words.next_word() else {
         return Err(LineFault::NotACommand);
@@ -55,7 +56,7 @@ fn read_words(alloc: Global, mut words: Words) -> Result<Command, LineFault>
 
 /// Reads what comes from outside to the part that the words name, of which the first is given.
 fn read_event(alloc: Global, first: &[u8], mut words: Words) -> Result<Command, LineFault>
-    ensures { Reads result (option_and_then event_command (part_of (first.now ∷ words.entry))) }
+    ensures { ReadsCommand result (option_and_then event_command (part_of (first.now ∷ words.entry))) }
 {
     match read_part(first, &mut words) {
         Some(PartName::Client(n)) => read_client(alloc, n, words),
@@ -66,7 +67,7 @@ fn read_event(alloc: Global, first: &[u8], mut words: Words) -> Result<Command, 
 
 /// Reads what comes from outside to a client.
 fn read_client(alloc: Global, n: u32, mut words: Words) -> Result<Command, LineFault>
-    ensures { Reads result (client_command n words.entry) }
+    ensures { ReadsCommand result (client_command n words.entry) }
 {
     let Some(verb) = words.next_word() else {
         return Err(LineFault::NotACommand);
@@ -97,7 +98,7 @@ fn client_event(n: u32, verb: &[u8]) -> Option<Command>
 
 /// Reads what comes from outside to a connection.
 fn read_up(alloc: Global, n: u32, mut words: Words) -> Result<Command, LineFault>
-    ensures { Reads result (up_command n words.entry) }
+    ensures { ReadsCommand result (up_command n words.entry) }
 {
     let Some(verb) = words.next_word() else {
         return Err(LineFault::NotACommand);

@@ -8,7 +8,7 @@ use Rattle.lload_spec.specs.FirstCheck.{client_facts}
 use Rattle.lload_spec.specs.Identity.{OwnIdentity}
 use Rattle.lload_spec.specs.Settings.{Settings, is_of_kind}
 use Rattle.lload_spec.specs.Journal.{Family, family}
-use Rattle.lload_spec.specs.Fifo.{each_sent_once, each_unanswered}
+use Rattle.lload_spec.specs.Fifo.{Fifo, each_answered, each_sent_chosen, each_sent_once, each_unanswered}
 use Rattle.lload_spec.specs.OneEach.{each_holder_alone}
 use Rattle.part_spec.specs.Merge.{PartMove, world_of}
 use Rattle.part_spec.specs.World.{journal_of, list_in}
@@ -56,6 +56,21 @@ RunsKeepUnanswered =
 abbrev pub RunsSendOnce : Type 0
 RunsSendOnce =
     (s : Settings) (ms : List PartMove) → IsTrue (end_rightly ms) → IsTrue (each_sent_once (family_of_run s ms))
+
+-- each Sent has the choice of its connection while its operation was live, or goes on with an exchange there
+abbrev pub RunsSendWhereChosen : Type 0
+RunsSendWhereChosen =
+    (s : Settings) (ms : List PartMove) → IsTrue (end_rightly ms) → IsTrue (each_sent_chosen (family_of_run s ms))
+
+-- where an operation was Sent, what its client got is allowed by the answers there
+abbrev pub RunsAnswer : Type 0
+RunsAnswer =
+    (s : Settings) (ms : List PartMove) → IsTrue (end_rightly ms) → IsTrue (each_answered (family_of_run s ms))
+
+-- each client gets a prefix of one upstream's answers, or that and one refusal, and nothing behind the end: the whole
+-- promise
+abbrev pub RunsKeepFifo : Type 0
+RunsKeepFifo = (s : Settings) (ms : List PartMove) → IsTrue (end_rightly ms) → Fifo (family_of_run s ms)
 
 -- where nothing waits, what was given was taken, and so it was heard
 abbrev pub RunsAreRested : Type 0

@@ -5,7 +5,7 @@
 //! fitness.
 #![tactic(auto)]
 
-ghost use Rattle.run_laws.specs.Runs.{RunsAreShared, RunsAreJoined, RunsKeepOneList, RunsKeepSeveralLists, RunsKeepUnanswered, RunsSendOnce, RunsAreRested, RunsHeardAtRest};
+ghost use Rattle.run_laws.specs.Runs.{RunsAreShared, RunsAreJoined, RunsKeepOneList, RunsKeepSeveralLists, RunsKeepUnanswered, RunsSendOnce, RunsAreRested, RunsHeardAtRest, RunsSendWhereChosen, RunsAnswer, RunsKeepFifo};
 ghost use Rattle.run_laws.specs.Runs.{RunsArePlayed, RunsKnowClients, RunsKeepChecks, RunsKeepIdentity, RunsTellExpiredBinds, RunsSayBinds, RunsHoldAlone};
 
 /// In every run each part's list keeps the part's whole share of the promises: each letter was fit where it was taken.
@@ -73,6 +73,23 @@ pub fn what_was_given_was_heard_in_runs()
 {
     parts_are_rested_in_runs();
     settled_laws::what_was_given_was_heard();
+}
+
+/// In every run each operation is sent where it was chosen, or where its exchange is; its client gets what that upstream
+/// answered, in order, or a beginning of it and one answer of the proxy's own; and nothing behind its end: the promise of one
+/// upstream's answers holds whole.
+pub fn each_client_of_a_run_gets_one_upstreams_answers_in_order()
+    ensures sent_chosen { RunsSendWhereChosen }
+    ensures answered { RunsAnswer }
+    ensures fifo { RunsKeepFifo }
+{
+    parts_are_joined_in_runs();
+    promises_of_one_list_hold_of_runs();
+    promises_of_several_lists_hold_of_runs();
+    operations_are_sent_once_or_answered_by_the_proxy_in_runs();
+    lload_spec::the_family_of_a_journal_is_whole();
+    forward_laws::an_operation_is_sent_where_it_was_chosen();
+    answer_laws::a_client_gets_what_its_upstream_answered();
 }
 
 /// In every run the lists of the parts are joined, and those of clients and connections are made by turns of these.

@@ -1,3 +1,4 @@
+pub mod Bits
 pub mod Candidates
 pub mod Drawing
 pub mod Firsts

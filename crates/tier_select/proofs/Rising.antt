@@ -1,4 +1,4 @@
--- Numbers that rise by one, and the first of them that passes a test.
+-- Numbers that rise by one, and the first of them in turn that passes a test.
 use Rattle.std.proofs.Common.{◌≡◌, ◌≢◌, ℕ, zero, suc, ◌+◌, ◌-◌, ◌<◌, ◌≤◌, Bool, true, false, ◌==◌, List, [], ◌∷◌, ◌++◌, filter, Some, refl, ap, ◌∙◌, arith, append_assoc, add-one}
 use Rattle.std.proofs.lemmas.Bool.Decides.{nat_tests}
 use Rattle.std.proofs.lemmas.List.Elements.{filter-append}
@@ -6,17 +6,6 @@ use Rattle.std.specs.Option.{option_or}
 use Rattle.lload_spec.specs.Lists.{first}
 use Rattle.lload_spec.specs.Picks.{rising, in_turn, from_successor}
 use Rattle.tier_select.proofs.Firsts.{first-append}
-
--- the numbers up to one begin with the first, if there is any
-pub rising_more : (i to : ℕ) → i < to → rising i (to - i) ≡ i ∷ rising (i + 1) (to - (i + 1))
-rising_more i to h = let e : to - i ≡ suc (to - (i + 1)) = omega arith in rw e (rw add-one refl)
-
--- the first that passes is none that doesn't
-pub first_passed : (p : ℕ → Bool) (i to : ℕ) → i < to → p i ≡ false → first (filter p (rising i (to - i))) ≡ first (filter p (rising (i + 1) (to - (i + 1))))
-first_passed p i to h e = rw (rising_more i to h) (rw e refl)
-
-pub first_found : (p : ℕ → Bool) (i to : ℕ) → i < to → p i ≡ true → first (filter p (rising i (to - i))) ≡ Some i
-first_found p i to h e = rw (rising_more i to h) (rw e refl)
 
 -- what comes from the successor of a number, and then the numbers up to it
 pub successor_rising : (c i n : ℕ) (before : List ℕ) → i ≤ c → c < i + n → from_successor (λ x. x == c) before (rising i n) ≡ rising (c + 1) (i + n - (c + 1)) ++ (before ++ rising i (c + 1 - i))

@@ -1,11 +1,13 @@
 -- Changes of what a turn makes: of its entries, and of its letters.
 use Rattle.std.specs.Prelude.{Bool, true, false, not, List, [], ◌∷◌, filter, flat_map, map}
 use Rattle.lload_names.specs.declared.inputs.Effects.{Effects}
+use Rattle.lload_names.specs.declared.inputs.Input.{Input}
+use Rattle.lload_names.specs.declared.inputs.Input.TheVariants.{LetterFrom}
 use Rattle.lload_names.specs.declared.names.Entry.{Entry}
 use Rattle.lload_names.specs.declared.names.Letter.{Letter}
 use Rattle.lload_names.specs.declared.names.Posted.{Posted}
 use Rattle.lload_names.specs.declared.names.What.{What}
-use Rattle.lload_names.specs.declared.names.Letter.TheVariants.{Returned, Ended, IsUp, IsRetired, IsDown, Reply, Failed, Drop, Leave, Pause, Resume}
+use Rattle.lload_names.specs.declared.names.Letter.TheVariants.{Ask, Choice, Forward, Returned, Ended, IsUp, IsRetired, IsDown, Reply, Failed, Drop, Leave, Pause, Resume}
 
 -- another thing happens
 abbrev pub entry_with : (What → What) → Entry → Entry
@@ -76,3 +78,28 @@ is_told_retired _ = false
 abbrev pub is_told_down : Letter → Bool
 is_told_down (IsDown conn) = true
 is_told_down _ = false
+
+abbrev pub is_ask : Letter → Bool
+is_ask (Ask op want) = true
+is_ask _ = false
+
+abbrev pub is_choice : Letter → Bool
+is_choice (Choice op answer) = true
+is_choice _ = false
+
+abbrev pub is_forward : Letter → Bool
+is_forward (Forward op sort rest ask_who holder) = true
+is_forward _ = false
+
+-- nothing happens, and nothing is given
+abbrev pub passed_over : Effects → Effects
+passed_over e = record { entries = []; letters = [] }
+
+-- another letter is passed over
+abbrev pub passed_over_if : (Letter → Bool) → Input → Effects → Effects
+passed_over_if test (LetterFrom now word sender letter) e = elim (test letter) [ true ↦ passed_over e | false ↦ e ]
+passed_over_if test input e = e
+
+abbrev pub is_reply : Letter → Bool
+is_reply (Reply op rest is_last who) = true
+is_reply _ = false

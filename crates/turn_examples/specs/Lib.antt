@@ -5,3 +5,4 @@ pub mod Clients
 pub mod Connections
 pub mod Binds
 pub mod Desks
+pub mod Silences

@@ -1,6 +1,6 @@
 -- What happens in the runs.
 use Rattle.std.specs.Prelude.{ℕ, List, [], ◌∷◌, ◌++◌}
-use Rattle.lload_names.specs.declared.inputs.Input.TheVariants.{Arrive, LinkUp, Message, Tick, Stall, Reload}
+use Rattle.lload_names.specs.declared.inputs.Input.TheVariants.{Arrive, LinkUp, Message, Tick, Stall, Flow, Reload}
 use Rattle.lload_names.specs.declared.names.PartName.TheVariants.{Desk, Client, Up as Connection}
 use Rattle.lload_spec.specs.Settings.{numbered_plan}
 use Rattle.spec_examples.specs.Configurations.{reloading}
@@ -80,6 +80,16 @@ delete_restricted = beginning ++ client_sends 1 5 restricted_delete
 abbrev pub zero_identifier : List Move
 zero_identifier = beginning ++ client_sends 1 0 delete_body
 
+-- a Delete for which no connection is there; one behind the loss of its connection; an Unbind
+abbrev pub delete_alone : List Move
+delete_alone = arrives 1 ++ client_sends 1 5 delete_body
+
+abbrev pub delete_behind_loss : List Move
+delete_behind_loss = beginning ++ Loses (Connection 1) ∷ Settles ∷ client_sends 1 5 delete_body
+
+abbrev pub unbinds : List Move
+unbinds = beginning ++ client_sends 1 5 unbind_body
+
 -- a Search; it is abandoned; its answer comes behind its Abandon, or the loss of its connection does
 abbrev pub search_sent : List Move
 search_sent = beginning ++ client_sends 1 7 search_body
@@ -100,6 +110,13 @@ search_answered = search_sent ++ (upstream_sends 1 1 search_entry ++ upstream_se
 abbrev pub search_canceled : List Move
 search_canceled = search_sent ++ client_sends 1 8 cancel_of_7
 
+-- an answer to nothing comes while a Search is live; a Bind does
+abbrev pub stray_answer : List Move
+stray_answer = search_sent ++ upstream_sends 1 9 delete_done
+
+abbrev pub bind_behind_search : List Move
+bind_behind_search = two_ready ++ (client_sends 1 7 search_body ++ client_sends 1 8 bind_x)
+
 -- its client doesn't read; an entry comes then; or the client leaves
 abbrev pub stalled : List Move
 stalled = search_sent ++ Comes (Client 1) (Stall 0) ∷ Settles ∷ []
@@ -113,6 +130,13 @@ stalled_and_gone = stalled ++ client_sends 1 8 unbind_body
 -- a client stalls twice
 abbrev pub stalls_again : List Move
 stalls_again = beginning ++ Comes (Client 1) (Stall 0) ∷ Comes (Client 1) (Stall 0) ∷ []
+
+-- it reads again; or a Search comes while it doesn't read
+abbrev pub reads_again : List Move
+reads_again = stalled ++ Comes (Client 1) (Flow 0) ∷ Settles ∷ []
+
+abbrev pub search_while_stalled : List Move
+search_while_stalled = beginning ++ Comes (Client 1) (Stall 0) ∷ client_sends 1 7 search_body
 
 -- a client with two Searches, each of which may go to its own connection
 abbrev pub two_searches : List Move
@@ -146,12 +170,22 @@ sasl_succeeds = two_ready ++ (client_sends 1 1 sasl_first ++ upstream_sends 2 1 
 abbrev pub identity_untold : List Move
 identity_untold = sasl_succeeds ++ upstream_sends 2 2 who_refused
 
+-- a Bind that is answered, and one that is due
+abbrev pub bind_answered : List Move
+bind_answered = two_ready ++ (client_sends 1 1 bind_x ++ upstream_sends 2 1 bind_done)
+
+abbrev pub bind_due : List Move
+bind_due = two_ready ++ (client_sends 1 1 bind_x ++ Comes (Connection 2) (Tick 30000) ∷ Settles ∷ [])
+
 -- a SASL exchange that goes on; its client leaves; or another client sends a Bind
 abbrev pub in_exchange : List Move
 in_exchange = two_ready ++ (client_sends 1 1 sasl_first ++ upstream_sends 2 1 sasl_in_progress)
 
 abbrev pub gone_within_exchange : List Move
 gone_within_exchange = in_exchange ++ client_sends 1 2 unbind_body
+
+abbrev pub next_in_exchange : List Move
+next_in_exchange = in_exchange ++ client_sends 1 2 sasl_first
 
 abbrev pub bind_within_exchange : List Move
 bind_within_exchange = in_exchange ++ (arrives 2 ++ client_sends 2 1 sasl_first)

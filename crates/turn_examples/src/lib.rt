@@ -7,3 +7,4 @@ pub mod binds;
 pub mod clients;
 pub mod connections;
 pub mod desks;
+pub mod silences;

@@ -1,4 +1,4 @@
-use Rattle.std.proofs.Common.{◌≡◌, ℕ, Bool, true, false, ◌||◌, not, cond, List, Option, Some, IfOk, Result, Ok, Err, refl, ap, ◌∙◌, sym}
+use Rattle.std.proofs.Common.{◌≡◌, ℕ, Bool, true, false, ◌||◌, not, cond, List, Option, IfOk, Result, Ok, Err, refl, ap, ◌∙◌, sym}
 use Rattle.std.specs.Option.{option_copied}
 use Rattle.ldap_spec.specs.Controls.{Control, with_first}
 use Rattle.lload_spec.specs.Identity.{identity_control}
@@ -17,11 +17,8 @@ carries (Ok body) own rest who control p same h =
     λ s on named. h ∙ (ap (λ (c : Control). with_first c rest) same ∙ sym (added s.proxies_authorization (is_privileged s who) rest _ on (p s named)))
 carries (Err e) own rest who control p same h = h
 
-abbrev critical : List ℕ → List ℕ → Control
-critical who oid = record { oid = oid; critical = true; value = Some who }
-
 pub returns : goal.returns
 returns c =
     let who = c.args.who.now in
     let not_own : (s : Settings) → own_name s ≡ option_copied c.args.binddn → is_privileged s who ≡ false = λ s named. sym (c.privileged.ensures s named) ∙ c.if-privileged.false in
-    carries _ (option_copied c.args.binddn) c.args.rest.now who (critical who c.as_bytes.result.now) not_own (ap (critical who) c.as_bytes.ensures.value) c.with_first.ensures
+    carries _ (option_copied c.args.binddn) c.args.rest.now who _ not_own c.identity_control.ensures c.with_first.ensures

@@ -1,0 +1,9 @@
+pub mod Ops
+pub mod Exchange
+pub mod Binds
+pub mod Outs
+pub mod Steps
+pub mod Causes
+pub mod Walk
+pub mod Sendings
+pub mod Chosen
