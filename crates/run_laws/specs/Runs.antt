@@ -1,14 +1,25 @@
 -- What is proved of every run of the parts, as statements.
-use Rattle.std.specs.Prelude.{◌≡◌, List, [], IsTrue}
-use Rattle.lload_spec.specs.Settings.{Settings}
+use Rattle.std.specs.Prelude.{◌≡◌, ℕ, true, List, [], ◌∷◌, ◌++◌, IsTrue, is_some}
+use Rattle.lload_names.specs.declared.names.PartName.TheVariants.{Client, Up as Connection}
+use Rattle.lload_names.specs.declared.names.ConnKind.TheVariants.{Bind as BindKind}
+use Rattle.lload_spec.specs.CausedUp.{each_bind_expiry_told}
+use Rattle.lload_spec.specs.Entries.{in_message}
+use Rattle.lload_spec.specs.FirstCheck.{client_facts}
+use Rattle.lload_spec.specs.Identity.{OwnIdentity}
+use Rattle.lload_spec.specs.Settings.{Settings, is_of_kind}
 use Rattle.lload_spec.specs.Journal.{Family, family}
 use Rattle.lload_spec.specs.Fifo.{Fifo, each_answered, each_sent_chosen, each_sent_once, each_unanswered}
+use Rattle.lload_spec.specs.OneEach.{each_holder_alone}
 use Rattle.part_spec.specs.Merge.{PartMove, world_of}
 use Rattle.part_spec.specs.World.{journal_of, list_in}
 use Rattle.link_laws.specs.Moves.{end_rightly}
 use Rattle.promise_laws.specs.OneList.{Shared, OfOneList}
 use Rattle.joined_laws.specs.Joined.{Joined, OfSeveralLists}
 use Rattle.settled_laws.specs.Laws.{OfRest, Rested}
+use Rattle.part_spec.specs.ClientState.{client_of, facts_of}
+use Rattle.part_spec.specs.Marked.{Marked, entries}
+use Rattle.carried_laws.specs.Laws.{Played}
+use Rattle.caused_laws.specs.Laws.{BindSaid, OfChecks}
 
 -- the family of the journal of a run
 abbrev pub family_of_run : Settings → List PartMove → Family
@@ -71,3 +82,43 @@ abbrev pub RunsHeardAtRest : Type 0
 RunsHeardAtRest =
     (s : Settings) (ms : List PartMove) → IsTrue (end_rightly ms) → (world_of s ms).letters ≡ []
     → OfRest (family_of_run s ms)
+
+-- its lists are joined, and those of clients and connections are made by turns of these
+abbrev pub RunsArePlayed : Type 0
+RunsArePlayed =
+    (s : Settings) (ms : List PartMove) → IsTrue (end_rightly ms)
+    → Played s (family_of_run s ms) (list_in (world_of s ms))
+
+-- where a message came, its client's state says to the first check what the family of the journal says
+abbrev pub RunsKnowClients : Type 0
+RunsKnowClients =
+    (s : Settings) (ms : List PartMove) → IsTrue (end_rightly ms)
+    → (c : ℕ) (before : List Marked) (m : Marked) (behind : List Marked)
+    → list_in (world_of s ms) (Client c) ≡ before ++ m ∷ behind → is_some (in_message m.entry.what) ≡ true
+    → facts_of (client_of s c before) ≡ client_facts s (family_of_run s ms) c (entries before)
+
+-- each In has directly behind it what its first check wants, and each Gone has its cause
+abbrev pub RunsKeepChecks : Type 0
+RunsKeepChecks =
+    (s : Settings) (ms : List PartMove) → IsTrue (end_rightly ms) → OfChecks s (family_of_run s ms)
+
+-- each forwarded request carries its own client's identity
+abbrev pub RunsKeepIdentity : Type 0
+RunsKeepIdentity =
+    (s : Settings) (ms : List PartMove) → IsTrue (end_rightly ms) → OwnIdentity s (family_of_run s ms)
+
+-- each Expired of a Bind has the end of its connection directly behind it
+abbrev pub RunsTellExpiredBinds : Type 0
+RunsTellExpiredBinds =
+    (s : Settings) (ms : List PartMove) → IsTrue (end_rightly ms) → IsTrue (each_bind_expiry_told (family_of_run s ms))
+
+-- what a bind connection's state says is what its list says by the family of the journal
+abbrev pub RunsSayBinds : Type 0
+RunsSayBinds =
+    (s : Settings) (ms : List PartMove) → IsTrue (end_rightly ms) → (u : ℕ) → is_of_kind s BindKind u ≡ true
+    → BindSaid s (family_of_run s ms) u (list_in (world_of s ms) (Connection u))
+
+-- each bind connection has one holder at a time
+abbrev pub RunsHoldAlone : Type 0
+RunsHoldAlone =
+    (s : Settings) (ms : List PartMove) → IsTrue (end_rightly ms) → IsTrue (each_holder_alone s (family_of_run s ms))

@@ -6,6 +6,7 @@
 #![tactic(auto)]
 
 ghost use Rattle.run_laws.specs.Runs.{RunsAreShared, RunsAreJoined, RunsKeepOneList, RunsKeepSeveralLists, RunsKeepUnanswered, RunsSendOnce, RunsAreRested, RunsHeardAtRest, RunsSendWhereChosen, RunsAnswer, RunsKeepFifo};
+ghost use Rattle.run_laws.specs.Runs.{RunsArePlayed, RunsKnowClients, RunsKeepChecks, RunsKeepIdentity, RunsTellExpiredBinds, RunsSayBinds, RunsHoldAlone};
 
 /// In every run each part's list keeps the part's whole share of the promises: each letter was fit where it was taken.
 pub fn parts_keep_their_shares_in_runs()
@@ -89,4 +90,46 @@ pub fn each_client_of_a_run_gets_one_upstreams_answers_in_order()
     lload_spec::the_family_of_a_journal_is_whole();
     forward_laws::an_operation_is_sent_where_it_was_chosen();
     answer_laws::a_client_gets_what_its_upstream_answered();
+}
+
+/// In every run the lists of the parts are joined, and those of clients and connections are made by turns of these.
+pub fn parts_are_played_in_runs()
+    ensures { RunsArePlayed }
+{
+    parts_are_joined_in_runs();
+    lload_spec::the_family_of_a_journal_is_whole();
+}
+
+/// So in every run a client is who the family of the journal says, where each of its messages came: by the answer that
+/// settled its last Bind. Each message has directly behind it what its first check wants, and each client's end has its
+/// cause, by the family.
+pub fn clients_are_known_in_runs()
+    ensures known { RunsKnowClients }
+    ensures checks { RunsKeepChecks }
+{
+    parts_are_played_in_runs();
+    identity_laws::a_client_is_who_the_family_says();
+    caused_laws::clients_keep_what_their_checks_say();
+}
+
+/// And each request that went upstream carries the identity of its own client.
+pub fn requests_carry_their_own_clients_identity_in_runs()
+    ensures { RunsKeepIdentity }
+{
+    parts_are_played_in_runs();
+    caused_laws::a_sent_carries_its_own_clients_identity();
+}
+
+/// In every run each Bind that expires takes its connection down, in the very next entry; and what a bind connection's state
+/// says is what its list says by the family of the journal. And a bind connection has one holder at a time.
+pub fn bind_connections_are_known_in_runs()
+    ensures expired { RunsTellExpiredBinds }
+    ensures says { RunsSayBinds }
+    ensures alone { RunsHoldAlone }
+{
+    parts_are_joined_in_runs();
+    parts_are_played_in_runs();
+    caused_laws::an_expired_bind_takes_its_connection_down();
+    caused_laws::a_bind_connection_says_what_the_family_says();
+    caused_laws::a_bind_connection_has_one_holder_at_a_time();
 }

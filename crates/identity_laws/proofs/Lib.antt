@@ -1,0 +1,9 @@
+pub mod Finals
+pub mod Bound
+pub mod BoundOut
+pub mod Tame
+pub mod BoundTurns
+pub mod Letters
+pub mod BoundCases
+pub mod Ins
+pub mod Checks
