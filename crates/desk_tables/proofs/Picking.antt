@@ -79,7 +79,7 @@ candidates-are : (s : Settings) (f : DeskFacts) (wanted : ConnKind) (bs : List B
 candidates-are s f wanted [] = refl
 candidates-are s f wanted (b ∷ bs) = candidates-step s f wanted b (filter (has s f wanted) bs) (candidates s f wanted bs) (candidates-are s f wanted bs) (connection_for s f wanted b) refl
 
-one-candidate : (s : Settings) (f : DeskFacts) (wanted : ConnKind) (b : BackendPlan) (o : Option ℕ) → or_busy (first ((elim o [ None ↦ [] | Some n ↦ Go n b.number ∷ [] ]) ++ [])) ≡ elim o [ None ↦ Busy | Some n ↦ Go n b.number ]
+pub one-candidate : (s : Settings) (f : DeskFacts) (wanted : ConnKind) (b : BackendPlan) (o : Option ℕ) → or_busy (first ((elim o [ None ↦ [] | Some n ↦ Go n b.number ∷ [] ]) ++ [])) ≡ elim o [ None ↦ Busy | Some n ↦ Go n b.number ]
 one-candidate s f wanted b None = refl
 one-candidate s f wanted b (Some n) = refl
 

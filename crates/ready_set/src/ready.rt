@@ -86,16 +86,15 @@ impl Ready {
     /// turn: from the successor of the one that was chosen last, or from the first. Where a place has several, the one with
     /// the greatest number stands for it. It takes no memory.
     pub fn next_in_turn(&self, last: Option<u32>, from: u32, to: u32) -> Option<u32>
-        requires forward { from ≤ to }
-        requires within { ForSome last (λ place. (from ≤ place) × (place < to)) }
-        ensures { (s : Settings) (among : List ℕ) → Indexes s among from to self.now → result ≡ first_at s among (in_turn (λ i. i) last (rising from (to - from))) }
+        ensures { (s : Settings) (among : List ℕ) → from ≤ to → ForSome last (λ place. (from ≤ place) × (place < to)) → Indexes s among from to self.now → result ≡ first_at s among (in_turn (λ i. i) last (rising from (to - from))) }
     {
         let Some(place) = last else {
             return self.next(from, to);
         };
-        match self.next(place + 1, to) {
+        let behind = place.saturating_add(1);
+        match self.next(behind, to) {
             Some(conn) => Some(conn),
-            None => self.next(from, place + 1),
+            None => self.next(from, behind),
         }
     }
 }
