@@ -1,6 +1,8 @@
 ghost use Rattle.std.specs.Prelude.{◌≡◌, ◌+◌, ◌∷◌, [], ℕ, slice_get, Some, None, MatchOption};
 ghost use Rattle.desk_choice.specs.Places.{viable_at};
 ghost use Rattle.lload_names.specs.declared.plans.TierPlan.{TierPlan};
+ghost use Rattle.lload_names.specs.declared.plans.BackendPlan.{BackendPlan};
+ghost use Rattle.std.specs.Prelude.{is_some};
 
 use crate::tables::Tables;
 use desk_tables::{Round, Server, numbered};
@@ -65,6 +67,13 @@ impl Tables {
         ensures { MatchOption result (slice_get self.now.servers.items (round.now.first + place) ≡ None) (λ server. slice_get self.now.servers.items (round.now.first + place) ≡ Some server.now) }
     {
         let index = round.first().checked_add(place)?;
+        self.server(index)
+    }
+
+    /// The backend with this index among all.
+    fn server(&self, index: usize) -> Option<&Server>
+        ensures { MatchOption result (slice_get self.now.servers.items index ≡ None) (λ server. slice_get self.now.servers.items index ≡ Some server.now) }
+    {
         self.servers.get(index)
     }
 
@@ -88,11 +97,19 @@ impl Tables {
     {
         let mut eligible = Flags::new();
         for place in 0..round.count().min(64) {
-            if let Some(server) = self.server_of(round, place) {
-                eligible.set(place as u32, self.connection_for(server, kind).is_some());
-            }
+            eligible.set(place as u32, self.has_eligible(round, place, kind));
         }
         eligible
+    }
+
+    /// Whether the backend at a place of a tier has an eligible connection of a kind.
+    fn has_eligible(&self, round: &Round, place: usize, kind: ConnKind) -> bool
+        ensures { (s : Settings) (f : DeskFacts) (i : ℕ) (t : TierPlan) (b : BackendPlan) → Tells s f self.now → IsTier f self.now i t round.now → slice_get t.backends place ≡ Some b → result ≡ is_some (connection_for s f kind b) }
+    {
+        match self.server_of(round, place) {
+            Some(server) => self.connection_for(server, kind).is_some(),
+            None => false,
+        }
     }
 
     /// The answer with the connection that stands for a backend; Busy where there is none.
@@ -144,7 +161,7 @@ impl Tables {
         if !row.is_usable(kind) {
             return Answer::Unavailable;
         }
-        let Some(server) = self.servers.get(row.spot.server) else {
+        let Some(server) = self.server(row.spot.server) else {
             return Answer::Unavailable;
         };
         if server.is_open() && row.is_ready() {
