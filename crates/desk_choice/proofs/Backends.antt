@@ -50,6 +50,7 @@ no-backend s f d kd number k none = any-none (is_of_backend s number) (viable_of
         let both : Some v.plan ≡ Some b = ap (option_map (λ v. v.plan)) (sym e) ∙ sym (get-map (λ v. v.plan) d.servers.items j) ∙ ap (λ bs. slice_get bs j) k.backends_are ∙ g in
         let same : v.plan ≡ b = cc in
         none j v e (ap (λ (x : BackendPlan). x.number) same ∙ is)
+
     there : (n : ℕ) → is_in n f.viable ≡ true → is_of_backend s number n ≡ true → ⊥
     there n e t =
         let r = viable-row s f n (row_of d.conns n) (k.rows n) e in

@@ -61,10 +61,13 @@ lane-row s f kd j b i n r h at placed room true e = at-index (index_of r == i) r
   where
     here : InPlan f.tiers r
     here = h.in_plan e
+
     both : (index_of r == i) ≡ true → (r.place.backend == b.number && is_kind kd r.place.kind) ≡ true
     both t = sym (here.placed b.number kd) ∙ ap (λ x. is_in x (places_for f.tiers b.number kd)) (let same : index_of r ≡ i = grind (arith, nat_tests, t) in same) ∙ placed
+
     most-is : r.place.backend ≡ b.number → kd ≡ r.place.kind → is_within_limit (most_on b kd) r.pending ≡ is_within_limit r.most r.pending
     most-is e k = ap (λ x. is_within_limit (most_on b x) r.pending) k ∙ ap (λ x. is_within_limit x r.pending) (sym (here.most j b at (sym e)))
+
     at-index : (t : Bool) → (index_of r == i) ≡ t → ((true && is_within_limit r.most r.pending) && t) ≡ (((r.place.backend == b.number && is_within_limit (most_on b kd) r.pending) && (is_kind kd r.place.kind && true)) && t)
     at-index false t = grind arith
     at-index true t =

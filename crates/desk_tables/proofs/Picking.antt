@@ -126,19 +126,19 @@ picks s f wanted t x flags w tells set =
     let last = ap (λ last. map num (tier_order t.kind (λ b. b.number) (λ b. b.weight) last w t.backends)) (sym tells.last_is) in
     let in_order = ordered t.kind tells.first w (last_picked tells.calls) t.backends tells.numbered ∙ last in
     let means : All (λ b. heard (num b) ≡ mean b) xs = λ i d l.
-        let b = get_or xs i d in
-        let is : IsAt tells.first t.backends b = at-xs i d l in
-        let back : tells.first + (b.number - tells.first) ≡ b.number = omega (arith, is.above) in
-        sym (tells.means_are (b.number - tells.first) is.below) ∙ ap f.mean back in
+    let b = get_or xs i d in
+    let is : IsAt tells.first t.backends b = at-xs i d l in
+    let back : tells.first + (b.number - tells.first) ≡ b.number = omega (arith, is.above) in
+    sym (tells.means_are (b.number - tells.first) is.below) ∙ ap f.mean back in
     let told : All (λ b. mean_of f (go s f wanted b) ≡ mean b) xs = λ i d l. mean-some s f wanted (get_or xs i d) (connection_for s f wanted (get_or xs i d)) refl (filter_passes (has s f wanted) os i d l) in
     let chosen : choice x flags w ≡ option_map num (tier_pick t.kind mean xs) =
-        ap (λ x. choice x flags w) tells.stands ∙ choice_standing t tells.calls flags w
-        ∙ ap (λ is. tier_pick t.kind heard (filter (is_set flags) is)) in_order
-        ∙ ap (tier_pick t.kind heard) (set-places tells.first flags (has s f wanted) t.backends os set at)
-        ∙ pick-map t.kind heard num xs
-        ∙ ap (option_map num) (pick-means t.kind (λ b. heard (num b)) mean xs means) in
+    ap (λ x. choice x flags w) tells.stands ∙ choice_standing t tells.calls flags w
+    ∙ ap (λ is. tier_pick t.kind heard (filter (is_set flags) is)) in_order
+    ∙ ap (tier_pick t.kind heard) (set-places tells.first flags (has s f wanted) t.backends os set at)
+    ∙ pick-map t.kind heard num xs
+    ∙ ap (option_map num) (pick-means t.kind (λ b. heard (num b)) mean xs means) in
     let picked : pick s f t wanted w ≡ or_busy (option_map (go s f wanted) (tier_pick t.kind mean xs)) =
-        ap (λ as'. or_busy (tier_pick t.kind (mean_of f) as')) (candidates-are s f wanted os)
-        ∙ ap or_busy (pick-map t.kind (mean_of f) (go s f wanted) xs)
-        ∙ ap (λ o. or_busy (option_map (go s f wanted) o)) (pick-means t.kind (λ b. mean_of f (go s f wanted b)) mean xs told) in
+    ap (λ as'. or_busy (tier_pick t.kind (mean_of f) as')) (candidates-are s f wanted os)
+    ∙ ap or_busy (pick-map t.kind (mean_of f) (go s f wanted) xs)
+    ∙ ap (λ o. or_busy (option_map (go s f wanted) o)) (pick-means t.kind (λ b. mean_of f (go s f wanted b)) mean xs told) in
     concluded s f wanted t w tells.first (tier_pick t.kind mean xs) (choice x flags w) chosen (λ b e. pick-of (IsAt tells.first t.backends) t.kind mean xs b at-xs e) picked

@@ -5,7 +5,9 @@
 mod conns;
 mod rounds;
 mod servers;
+#[cfg(test)]
+mod tests;
 
 pub use conns::{Conn, Conns, Spot, is_within};
 pub use rounds::Round;
-pub use servers::{Lane, Server, is_viable, numbered, write_server};
+pub use servers::{Lane, Server, numbered, write_server};

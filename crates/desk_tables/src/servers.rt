@@ -1,8 +1,6 @@
 ghost use Rattle.std.specs.Prelude.{◌≡◌, ◌≢◌, ◌<◌, ℕ, length, slice_get, slice_set, None};
-ghost use Rattle.std.specs.List.{list_any};
 ghost use Rattle.std.specs.Option.{ForSome};
 ghost use Rattle.lload_spec.specs.Choice.{is_within_limit, most_on};
-ghost use Rattle.desk_tables.specs.Lanes.{has_viable};
 
 use crate::conns::is_within;
 use lload_names::{BackendPlan, ConnKind};
@@ -110,18 +108,6 @@ pub fn numbered(servers: &[Server], number: u32) -> Option<usize>
         }
     }
     None
-}
-
-/// Whether one of these backends has a viable connection of a kind.
-pub fn is_viable(servers: &[Server], kind: ConnKind) -> bool
-    ensures { result ≡ list_any (has_viable kind) servers.now }
-{
-    for server in servers {
-        if server.lane(kind).viable > 0 {
-            return true;
-        }
-    }
-    false
 }
 
 /// Writes one of these backends, by its index; one beyond their end changes nothing. It takes no memory.
