@@ -1,0 +1,5 @@
+mod Flat
+mod Eligible
+mod Tiers
+mod Backends
+mod One

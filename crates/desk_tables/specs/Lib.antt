@@ -1,0 +1,4 @@
+pub mod Rows
+pub mod Lanes
+pub mod Turns
+pub mod Choices

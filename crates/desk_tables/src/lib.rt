@@ -1,0 +1,13 @@
+//! What the desk keeps: the connections that it knows, and the tiers of the plan in force with their backends and
+//! places. Each call says what it changes and that all else stays; none of them chooses.
+#![tactic(auto)]
+
+mod conns;
+mod rounds;
+mod servers;
+#[cfg(test)]
+mod tests;
+
+pub use conns::{Conn, Conns, Spot, is_within};
+pub use rounds::Round;
+pub use servers::{Lane, Server, numbered, write_server};
