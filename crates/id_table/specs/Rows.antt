@@ -53,3 +53,8 @@ Rises low (r ∷ rs) next = (low ≤ r.id) × Rises (r.id + 1) rs next
 abbrev pub has_op : OpName → Option Row → Bool
 has_op op None = false
 has_op op (Some r) = same_op r.op op
+
+-- the lowest identifier: that of the first row, since they rise
+abbrev pub first_id : List Row → Option ℕ
+first_id [] = None
+first_id (r ∷ rs) = Some r.id
