@@ -11,7 +11,7 @@ use Rattle.std.specs.declared.cmp.Ordering.{Ordering}
 use Rattle.std.specs.declared.cmp.Ordering.TheVariants.{Less, Equal, Greater}
 use Rattle.slab.specs.Slab.{Slab, get, with_value}
 use Rattle.slab.proofs.SlabLemmas.{Updates-with_value}
-use Rattle.id_table.specs.Places.{entries_at, ArePlaces, with_found, changed_entry}
+use Rattle.id_table.specs.Places.{entries_at, first_key, ArePlaces, with_found, changed_entry}
 use Rattle.id_table.specs.declared.row.Row.{Row}
 
 -- a row at a place, before others
@@ -41,6 +41,14 @@ length-step id (Some r) es n h e = ap suc e
 pub length-entries : (s : Slab Row) (ps : List (ℕ × ℕ)) → ArePlaces s ps → length (entries_at s ps) ≡ length ps
 length-entries s [] a = refl
 length-entries s (p ∷ ps) a = length-step p.0 (get s p.1) _ _ a.0 (length-entries s ps a.2)
+
+first-step : (id : ℕ) (o : Option Row) (es : List (ℕ × Row)) → IsSome o → first_key (onto id o es) ≡ Some id
+first-step id None es h = absurd (cc)
+first-step id (Some r) es h = refl
+
+pub first-entries : (s : Slab Row) (ps : List (ℕ × ℕ)) → ArePlaces s ps → first_key (entries_at s ps) ≡ first_key ps
+first-entries s [] a = refl
+first-entries s (p ∷ ps) a = first-step p.0 (get s p.1) _ a.0
 
 lookup-step : (test : ℕ → Bool) (s : Slab Row) (id place : ℕ) (o : Option Row) (es : List (ℕ × Row)) (k : Option ℕ) (b : Bool) → test id ≡ b → get s place ≡ o → IsSome o → lookup test es ≡ option_and_then (get s) k → lookup test (onto id o es) ≡ option_and_then (get s) (cond b (Some place) k)
 lookup-step test s id place None es k b t g h e = absurd (cc)

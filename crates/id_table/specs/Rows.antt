@@ -16,6 +16,11 @@ abbrev pub id_of : OpName → List Row → Option ℕ
 id_of op [] = None
 id_of op (r ∷ rs) = if same_op r.op op then Some r.id else id_of op rs
 
+-- the lowest identifier: that of the first row, since they rise
+abbrev pub first_id : List Row → Option ℕ
+first_id [] = None
+first_id (r ∷ rs) = Some r.id
+
 -- the rows with one more, at its place in the order
 abbrev pub put : Row → List Row → List Row
 put r [] = r ∷ []
@@ -53,8 +58,3 @@ Rises low (r ∷ rs) next = (low ≤ r.id) × Rises (r.id + 1) rs next
 abbrev pub has_op : OpName → Option Row → Bool
 has_op op None = false
 has_op op (Some r) = same_op r.op op
-
--- the lowest identifier: that of the first row, since they rise
-abbrev pub first_id : List Row → Option ℕ
-first_id [] = None
-first_id (r ∷ rs) = Some r.id

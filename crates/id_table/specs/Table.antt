@@ -1,5 +1,5 @@
 -- A table of the live operations of a connection.
-use Rattle.std.specs.Prelude.{◌≡◌, ℕ, Bool, ◌+◌, ◌*◌, ◌≤◌, List, [], ◌∷◌, Some, None, nat_lt}
+use Rattle.std.specs.Prelude.{◌≡◌, ℕ, Bool, ◌+◌, ◌*◌, ◌≤◌, List, [], ◌∷◌, Some, None, nat_lt, nat_le}
 use Rattle.std.specs.List.{AllByRecursion}
 use Rattle.lload_names.specs.declared.names.OpName.{OpName}
 use Rattle.lload_names.specs.declared.names.OpKind.{OpKind}
@@ -22,6 +22,10 @@ empty limit = record { rows = []; ids = no_ids; limit = limit }
 -- whether an identifier equal to the limit or above was given
 abbrev pub passes_limit : Table → Bool
 passes_limit t = nat_lt t.limit t.ids.next
+
+-- whether the next identifier may go to a message of the proxy's own
+abbrev pub may_own : Table → Bool
+may_own t = nat_le t.ids.next (2 * t.limit)
 
 -- what stands of each table: the rows rise and their identifiers were given, none of them is free, and messages of the
 -- proxy's own go up to twice the limit

@@ -3,7 +3,7 @@ ghost use Rattle.std.specs.BTreeMap.{insert_entry, is_at};
 ghost use Rattle.std.specs.Map.{lookup, remove_entry};
 ghost use Rattle.std.specs.Option.{option_copied};
 ghost use Rattle.std.specs.Ordering.{nat_cmp};
-ghost use Rattle.id_table.specs.Places.{changed_entry};
+ghost use Rattle.id_table.specs.Places.{changed_entry, first_key};
 ghost use Rattle.id_table.specs.Rows.{answered, kept_back};
 
 use crate::row::{Kept, Row};
@@ -50,6 +50,14 @@ impl FiledRows {
         ensures small { result ≤ 9223372036854775807 }
     {
         self.places.len()
+    }
+
+    /// The lowest identifier.
+    pub(crate) fn first(&self) -> Option<u32>
+        ensures { result ≡ first_key self.now }
+    {
+        let (id, _) = self.places.first_key_value()?;
+        Some(*id)
     }
 
     /// The row of an identifier.

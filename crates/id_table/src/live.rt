@@ -1,6 +1,6 @@
 ghost use Rattle.std.specs.Prelude.{◌≡◌, ◌≤◌, [], None, length, OnOk, OnErr};
 ghost use Rattle.std.specs.Option.{option_copied};
-ghost use Rattle.id_table.specs.Rows.{row_of, id_of, put, without, changed, answered, kept_back};
+ghost use Rattle.id_table.specs.Rows.{row_of, id_of, first_id, put, without, changed, answered, kept_back};
 
 use crate::filed::FiledRows;
 use crate::row::{Kept, Row};
@@ -47,6 +47,13 @@ impl LiveRows {
         ensures small { result ≤ 9223372036854775807 }
     {
         self.rows.len()
+    }
+
+    /// The lowest identifier.
+    pub(crate) fn first(&self) -> Option<u32>
+        ensures { result ≡ first_id self.now }
+    {
+        self.rows.first()
     }
 
     /// The row of an identifier.

@@ -1,8 +1,8 @@
-ghost use Rattle.std.specs.Prelude.{◌≡◌, ◌≤◌, ◌*◌, None, Ok, IfOk, OnOk, OnErr};
+ghost use Rattle.std.specs.Prelude.{◌≡◌, ◌≤◌, ◌*◌, None, Ok, length, IfOk, OnOk, OnErr};
 ghost use Rattle.std.specs.Option.{option_copied};
 ghost use Rattle.lload_spec.specs.Identifiers.{id_for};
-ghost use Rattle.id_table.specs.Rows.{row_of, id_of};
-ghost use Rattle.id_table.specs.Table.{empty, gave, used_up, touched_at, kept_at, ended_at, finished_at, passes_limit, IsTable};
+ghost use Rattle.id_table.specs.Rows.{row_of, id_of, first_id};
+ghost use Rattle.id_table.specs.Table.{empty, gave, used_up, touched_at, kept_at, ended_at, finished_at, passes_limit, may_own, IsTable};
 
 use crate::given::GivenIds;
 use crate::live::LiveRows;
@@ -89,6 +89,43 @@ impl IdTable {
         let id = self.ids.next();
         self.ids.use_next();
         id
+    }
+
+    /// The identifier that the next operation gets. It takes no memory.
+    pub fn upcoming(&self) -> u32
+        ensures { result ≡ id_for self.now.ids }
+    {
+        self.ids.first()
+    }
+
+    /// Whether the next identifier is at most twice the limit, so that `own` may give it. It takes no memory.
+    pub fn may_own(&self) -> bool
+        ensures { result ≡ may_own self.now }
+    {
+        self.ids.next() <= 2 * self.limit
+    }
+
+    /// The limit at which the connection retires.
+    pub fn limit(&self) -> u32
+        ensures { result ≡ self.now.limit }
+    {
+        self.limit
+    }
+
+    /// How many rows are live. It takes no memory.
+    pub fn len(&self) -> usize
+        ensures len { result ≡ length self.now.rows }
+        ensures table { IsTable self.now }
+    {
+        self.live.len()
+    }
+
+    /// The lowest live identifier; `None` exactly where no row is live. It takes no memory.
+    pub fn first(&self) -> Option<u32>
+        ensures first { result ≡ first_id self.now.rows }
+        ensures table { IsTable self.now }
+    {
+        self.live.first()
     }
 
     /// The row of an identifier; `None` exactly where it isn't live. It takes no memory.
