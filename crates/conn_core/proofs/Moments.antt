@@ -13,6 +13,9 @@ use Rattle.id_table.specs.declared.row.Kept.{Kept}
 use Rattle.id_table.specs.Rows.{row_of, put, without, changed, answered, kept_back, Rises}
 use Rattle.conn_core.specs.Kept.{moments_of}
 
+at-self : (id : ℕ) → is_at (nat_cmp id) id ≡ true
+at-self id = grind (arith, nat_tests)
+
 at-key : (id k : ℕ) → is_at (nat_cmp id) k ≡ (k == id)
 at-key id k = grind (arith, nat_tests)
 
@@ -27,20 +30,20 @@ pub moments-without : (id : ℕ) (rows : List Row) → remove_entry (is_at (nat_
 moments-without id [] = refl
 moments-without id (r ∷ rs) = without-step (is_at (nat_cmp id) r.id) (r.id == id) (r.id, r.last) r _ rs _ (at-key id r.id) refl (moments-without id rs)
 
-touch-step : (b c : Bool) (w : ℕ) (r t : Row) (es : List (ℕ × ℕ)) (rs ts : List Row) → b ≡ c → (t.id, t.last) ≡ (r.id, w) → es ≡ moments_of ts → cond b ((r.id, w) ∷ moments_of rs) ((r.id, r.last) ∷ es) ≡ moments_of (if c then t ∷ rs else r ∷ ts)
-touch-step true true w r t es rs ts h f g = ap (λ x. x ∷ moments_of rs) (sym f)
-touch-step false false w r t es rs ts h f g = ap (λ l. (r.id, r.last) ∷ l) g
-touch-step true false w r t es rs ts h f g = absurd (let bad : true ≡ false = h in cc)
-touch-step false true w r t es rs ts h f g = absurd (let bad : false ≡ true = h in cc)
+touch-step : (b c : Bool) (w : ℕ) (r t : Row) (es : List (ℕ × ℕ)) (rs ts : List Row) → b ≡ c → t.id ≡ r.id → t.last ≡ w → es ≡ moments_of ts → cond b ((r.id, w) ∷ moments_of rs) ((r.id, r.last) ∷ es) ≡ moments_of (if c then t ∷ rs else r ∷ ts)
+touch-step true true w r t es rs ts h i f g = ap (λ n. (n, w) ∷ moments_of rs) (sym i) ∙ ap (λ n. (t.id, n) ∷ moments_of rs) (sym f)
+touch-step false false w r t es rs ts h i f g = ap (λ l. (r.id, r.last) ∷ l) g
+touch-step true false w r t es rs ts h i f g = absurd (let bad : true ≡ false = h in cc)
+touch-step false true w r t es rs ts h i f g = absurd (let bad : false ≡ true = h in cc)
 
 -- a row is answered, and is kept back
 pub moments-answered : (id now : ℕ) (rows : List Row) → set_value (is_at (nat_cmp id)) (moments_of rows) now ≡ moments_of (changed (answered now) id rows)
 moments-answered id now [] = refl
-moments-answered id now (r ∷ rs) = touch-step (is_at (nat_cmp id) r.id) (r.id == id) now r (answered now r) _ rs _ (at-key id r.id) refl (moments-answered id now rs)
+moments-answered id now (r ∷ rs) = touch-step (is_at (nat_cmp id) r.id) (r.id == id) now r (answered now r) _ rs _ (at-key id r.id) refl refl (moments-answered id now rs)
 
 pub moments-kept : (id now : ℕ) (k : Kept) (rows : List Row) → set_value (is_at (nat_cmp id)) (moments_of rows) now ≡ moments_of (changed (kept_back now k) id rows)
 moments-kept id now k [] = refl
-moments-kept id now k (r ∷ rs) = touch-step (is_at (nat_cmp id) r.id) (r.id == id) now r (kept_back now k r) _ rs _ (at-key id r.id) refl (moments-kept id now k rs)
+moments-kept id now k (r ∷ rs) = touch-step (is_at (nat_cmp id) r.id) (r.id == id) now r (kept_back now k r) _ rs _ (at-key id r.id) refl refl (moments-kept id now k rs)
 
 -- a row comes
 pub moments-put : (r : Row) (rows : List Row) → row_of r.id rows ≡ None → insert_entry nat_cmp (moments_of rows) r.id r.last ≡ moments_of (put r rows)
@@ -64,14 +67,14 @@ moments-put r (x ∷ xs) n = by (nat_cmp r.id x.id) refl (x.id == r.id) refl n (
 
 -- what was put in is taken out again
 pub put-back : (id now : ℕ) (rows : List Row) → row_of id rows ≡ None → remove_entry (is_at (nat_cmp id)) (insert_entry nat_cmp (moments_of rows) id now) ≡ moments_of rows
-put-back id now [] n = ap (λ b. cond b [] ((id, now) ∷ [])) (at-key id id ∙ grind (arith, nat_tests))
+put-back id now [] n = ap (λ b. cond b [] ((id, now) ∷ [])) (at-self id)
 put-back id now (x ∷ xs) n = by (nat_cmp id x.id) refl (x.id == id) refl n (put-back id now xs)
   where
     same : Equal ≡ nat_cmp id x.id → (x.id == id) ≡ true
     same o = grind (arith, nat_tests, o)
 
     by : (o : Ordering) → o ≡ nat_cmp id x.id → (b : Bool) → (x.id == id) ≡ b → (if b then Some x else row_of id xs) ≡ None → (row_of id xs ≡ None → remove_entry (is_at (nat_cmp id)) (insert_entry nat_cmp (moments_of xs) id now) ≡ moments_of xs) → remove_entry (is_at (nat_cmp id)) (match_ordering o ((id, now) ∷ (x.id, x.last) ∷ moments_of xs) ((x.id, now) ∷ moments_of xs) ((x.id, x.last) ∷ insert_entry nat_cmp (moments_of xs) id now)) ≡ (x.id, x.last) ∷ moments_of xs
-    by Less o b t n ih = ap (λ c. cond c ((x.id, x.last) ∷ moments_of xs) ((id, now) ∷ remove_entry (is_at (nat_cmp id)) ((x.id, x.last) ∷ moments_of xs))) (at-key id id ∙ grind (arith, nat_tests))
+    by Less o b t n ih = ap (λ c. cond c ((x.id, x.last) ∷ moments_of xs) ((id, now) ∷ remove_entry (is_at (nat_cmp id)) ((x.id, x.last) ∷ moments_of xs))) (at-self id)
     by Greater o false t n ih = ap (λ c. cond c (insert_entry nat_cmp (moments_of xs) id now) ((x.id, x.last) ∷ remove_entry (is_at (nat_cmp id)) (insert_entry nat_cmp (moments_of xs) id now))) (at-key id x.id ∙ t) ∙ ap (λ l. (x.id, x.last) ∷ l) (ih n)
     by Equal o false t n ih = absurd (let bad : false ≡ true = sym t ∙ same o in cc)
     by o p true t n ih = absurd (let bad : ◌≡◌ {A = Option Row} (Some x) None = n in cc)

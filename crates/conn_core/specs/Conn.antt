@@ -71,8 +71,8 @@ pub record IsSound (c : Conn) : Type 0 where
 
 -- what is kept beside the view: the moments of the rows, and, until it ends, room for the letters of its end
 pub record IsKept (down : Bool) (table : Table) (moments : List (ℕ × ℕ)) (entries : Room Entry) (letters : Room Posted) : Type 0 where
-  pub table : IsTable table
-  pub moments : moments ≡ moments_of table.rows
+  pub sound : IsTable table
+  pub counted : moments ≡ moments_of table.rows
   pub no_entries : entries.items ≡ []
   pub no_letters : letters.items ≡ []
   pub entry_room : down ≡ false → 1 ≤ entries.spare

@@ -1,7 +1,8 @@
 -- The live operations as the table has them, and as the state of the connection's list does.
 use Rattle.std.specs.Prelude.{◌≡◌, ℕ, ◌+◌, ◌*◌, ◌≤◌, Bool, true, false, is_none, List, [], ◌∷◌, length, filter, map, Option, Some, None, ⊤}
 use Rattle.lload_names.specs.declared.names.OpName.{OpName}
-use Rattle.lload_names.specs.Same.{same_op}
+use Rattle.lload_names.specs.declared.names.OpKind.TheVariants.{Bind}
+use Rattle.lload_names.specs.Same.{same_op, same_kind}
 use Rattle.id_table.specs.declared.row.Row.{Row}
 use Rattle.id_table.specs.declared.row.Kept.{Kept}
 use Rattle.part_spec.specs.ConnectionState.{UpRow, Kept as UpKept}
@@ -41,3 +42,17 @@ EachOnce (r ∷ rs) = (has_op r.op rs ≡ false) × EachOnce rs
 -- the rows whose answers aren't kept back: each may want one message of the proxy's own
 abbrev pub open_rows : List Row → List Row
 open_rows rows = filter (λ r. is_none r.kept) rows
+
+-- a row of a regular connection: its operation is no Bind, and no answer is kept back
+pub record IsPlain (r : Row) : Type 0 where
+  pub kind : same_kind Bind r.kind ≡ false
+  pub kept : r.kept ≡ None
+
+abbrev pub ArePlain : List Row → Type 0
+ArePlain [] = ⊤
+ArePlain (r ∷ rs) = IsPlain r × ArePlain rs
+
+-- a row that was found, as the state has it
+abbrev pub up_found : Option Row → Option UpRow
+up_found None = None
+up_found (Some r) = Some (up_row r)

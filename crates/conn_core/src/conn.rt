@@ -1,17 +1,24 @@
-ghost use Rattle.std.specs.Prelude.{◌≡◌, ◌==◌, ◌≤◌, ◌<◌, ◌^◌, ◌+◌, ◌*◌, ◌++◌, ◌||◌, ◌&&◌, not, max, true, false, None, length, map, filter, IfOk, OnOk, OnErr, MatchOption};
+ghost use Rattle.std.specs.Prelude.{◌≡◌, ◌==◌, ◌≤◌, ◌<◌, ◌^◌, ◌+◌, ◌*◌, ◌++◌, ◌∷◌, [], max, true, false, length, map, filter, IfOk, OnOk, OnErr, MatchOption};
 ghost use Rattle.std.specs.Option.{option_copied};
 ghost use Rattle.lload_spec.specs.Identifiers.{id_for};
 ghost use Rattle.id_table.specs.Rows.{row_of, id_of};
 ghost use Rattle.id_table.specs.Table.{gave, used_up, touched_at, kept_at, ended_at, finished_at, passes_limit, may_own, IsTable};
 ghost use Rattle.op_deadlines.specs.Due.{is_due};
+ghost use Rattle.lload_names.specs.declared.names.PartName.TheVariants.{Up};
+ghost use Rattle.lload_names.specs.declared.names.What.TheVariants.{Down};
 ghost use Rattle.conn_core.specs.Conn.{new_conn};
+ghost use Rattle.conn_core.specs.Closing.{closing_letters};
 
 use id_table::{IdTable, Kept, Row};
-use lload_names::{ConnKind, NoMemory, OpKind, OpName};
+use crate::closing::lose_all;
+use lload_names::{
+    ConnKind, EndWhy, Entry, Letter, NoMemory, OpKind, OpName, PartName, Posted, What,
+};
 use op_deadlines::Deadlines;
 use outbox::Outbox;
 use std::alloc::Global;
 use std::marker::Model;
+use std::mem;
 
 /// What the parts of both kinds of upstream connection keep.
 #[derive(Drop)]
@@ -145,7 +152,7 @@ impl ConnCore {
     ) -> Result<u32, NoMemory>
         requires { self.old.table.ids.next ≤ self.old.table.limit }
         ensures id { IfOk result (λ id. id ≡ id_for self.old.table.ids) }
-        ensures fresh { row_of (id_for self.old.table.ids) self.old.table.rows ≡ None }
+        ensures fresh { IfOk result (λ id. row_of id self.old.table.rows ≡ None) }
         ensures sent { OnOk result (self.new ≡ record self.old { moment = at; table = gave op kind ask_who at self.old.table }) }
         ensures err { OnErr result (self.new ≡ self.old) }
         ensures table { IsTable self.new.table }
@@ -154,12 +161,16 @@ impl ConnCore {
         self.room.letters.reserve(more)?;
         let id = self.table.upcoming();
         self.deadlines.start(id, at)?;
-        if self.table.give(op, kind, ask_who, at).is_err() {
-            self.deadlines.stop(id);
-            return Err(NoMemory);
+        match self.table.give(op, kind, ask_who, at) {
+            Ok(id) => {
+                self.moment = at;
+                Ok(id)
+            }
+            Err(_) => {
+                self.deadlines.stop(id);
+                Err(NoMemory)
+            }
         }
-        self.moment = at;
-        Ok(id)
     }
 
     /// The moment of its last entry is this one.
@@ -242,5 +253,69 @@ impl ConnCore {
         ensures { IfOk result (λ due. due.items ≡ map (λ r. r.id) (filter (λ r. is_due self.now.timeout at r.last) self.now.table.rows)) }
     {
         self.deadlines.all_due(at)
+    }
+
+    /// Makes room in an outbox for the connection's end, and for so many entries and letters beside it.
+    pub fn reserve_end(&self, entries: usize, letters: usize, out: &mut Outbox) -> Result<(), NoMemory>
+        requires entries { entries ≤ 1000 }
+        requires letters { letters ≤ 1000 }
+        ensures entries { out.new.entries.items ≡ out.old.entries.items }
+        ensures letters { out.new.letters.items ≡ out.old.letters.items }
+        ensures entry_room { OnOk result (entries + 1 ≤ out.new.entries.spare) }
+        ensures letter_room { OnOk result (letters + 2 * length self.now.table.rows + 2 ≤ out.new.letters.spare) }
+    {
+        let more = 2 * self.table.len() + 2;
+        out.reserve(entries + 1, letters + more)?;
+        Ok(())
+    }
+
+    /// The connection ends: each live operation is lost, then its holder ends, then the desk hears it. There is room
+    /// for all that.
+    pub fn close(&mut self, at: u64, why: EndWhy, holder: Option<OpName>, out: &mut Outbox)
+        requires entry { 1 ≤ out.old.entries.spare }
+        requires letters { 2 * length self.old.table.rows + 2 ≤ out.old.letters.spare }
+        ensures entries { out.new.entries.items ≡ out.old.entries.items ++ record { part = Up self.old.number; at = at; what = Down why } ∷ [] }
+        ensures letters { out.new.letters.items ≡ out.old.letters.items ++ closing_letters self.old.number self.old.kind self.old.table.rows holder }
+        ensures closed { self.new ≡ record self.old { moment = at; down = true; table = record self.old.table { rows = [] } } }
+        ensures table { IsTable self.new.table }
+    {
+        self.moment = at;
+        self.down = true;
+        out.entries.put(Entry {
+            part: PartName::Up(self.number),
+            at,
+            what: What::Down { why },
+        });
+        lose_all(&mut self.table, self.number, self.kind, out);
+        self.deadlines.clear();
+        if let Some(op) = holder {
+            out.letters.put(Posted {
+                to: PartName::Desk,
+                letter: Letter::Ended {
+                    op,
+                    conn: self.number,
+                    latency: None,
+                },
+            });
+        }
+        out.letters.put(Posted {
+            to: PartName::Desk,
+            letter: Letter::IsDown { conn: self.number },
+        });
+    }
+
+    /// The same by the room that is kept for it; where it has ended, nothing is there. It takes no memory.
+    pub fn sever(&mut self, at: u64, why: EndWhy, holder: Option<OpName>) -> Outbox
+        requires { self.old.down ≡ false }
+        ensures entries { result.entries.items ≡ record { part = Up self.old.number; at = at; what = Down why } ∷ [] }
+        ensures letters { result.letters.items ≡ closing_letters self.old.number self.old.kind self.old.table.rows holder }
+        ensures closed { self.new ≡ record self.old { moment = at; down = true; table = record self.old.table { rows = [] } } }
+        ensures table { IsTable self.new.table }
+    {
+        let mut out = Outbox::new(self.alloc);
+        mem::swap(&mut out, &mut self.room);
+        self.down = true;
+        self.close(at, why, holder, &mut out);
+        out
     }
 }

@@ -6,6 +6,7 @@
 //! memory nothing changes.
 #![tactic(auto)]
 
+mod closing;
 mod conn;
 
 pub use conn::ConnCore;

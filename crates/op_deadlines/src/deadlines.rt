@@ -63,6 +63,13 @@ impl Deadlines {
         self.moments.stop(id);
     }
 
+    /// No identifier waits any more. It takes no memory.
+    pub fn clear(&mut self)
+        ensures { self.new ≡ record { timeout = self.old.timeout; moments = [] } }
+    {
+        self.moments = Tree::new();
+    }
+
     /// The lowest identifier that is due at the moment `now`, in milliseconds; `None` exactly where none is. It takes
     /// no memory.
     pub fn first_due(&self, now: u64) -> Option<u32>
