@@ -8,5 +8,7 @@
 
 mod closing;
 mod conn;
+mod settings;
 
 pub use conn::ConnCore;
+pub use settings::{OwnBindBytes, UpSettings};

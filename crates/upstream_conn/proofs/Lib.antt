@@ -1,2 +1,3 @@
-pub mod Kinds
 pub mod Waits
+pub mod Sound
+pub mod Sends

@@ -31,7 +31,7 @@ rises-put low n (m ∷ ms) l h = by (n == m) refl (nat_lt n m) refl (λ k. rises
   where
     by : (b : Bool) → (n == m) ≡ b → (c : Bool) → nat_lt n m ≡ c → (m + 1 ≤ n → RisesFrom (m + 1) (put_number n ms)) → RisesFrom low (elim b [ true ↦ m ∷ ms | false ↦ elim c [ true ↦ n ∷ m ∷ ms | false ↦ m ∷ put_number n ms ] ])
     by true e c f ih = h
-    by false e true f ih = (l, grind (arith, nat_tests, f), h.1)
+    by false e true f ih = (l, (grind (arith, nat_tests, f), h.1))
     by false e false f ih = (h.0, ih (grind (arith, nat_tests, e, f)))
 
 keeps-above : (low n : ℕ) (ms : List ℕ) → n < low → RisesFrom low ms → filter (λ d. not (d == n)) ms ≡ ms
