@@ -7,8 +7,7 @@ use Rattle.std.specs.Map.{lookup, remove_entry, set_value}
 use Rattle.std.specs.Ordering.{nat_cmp, match_ordering}
 use Rattle.std.specs.declared.cmp.Ordering.{Ordering}
 use Rattle.std.specs.declared.cmp.Ordering.TheVariants.{Less, Equal, Greater}
-use Rattle.id_table.specs.Rows.{row_of, first_id, put, without, changed}
-use Rattle.id_table.specs.Places.{first_key}
+use Rattle.id_table.specs.Rows.{row_of, put, without, changed}
 use Rattle.id_table.specs.Filed.{rows_of, AreFiled}
 use Rattle.id_table.specs.declared.row.Row.{Row}
 
@@ -22,10 +21,6 @@ same-test id e h = ap (λ k. k == id) h ∙ sym (at-key id e.0)
 pub rows-length : (es : List (ℕ × Row)) → length (rows_of es) ≡ length es
 rows-length [] = refl
 rows-length (e ∷ es) = ap suc (rows-length es)
-
-pub rows-first : (es : List (ℕ × Row)) → AreFiled es → first_id (rows_of es) ≡ first_key es
-rows-first [] f = refl
-rows-first (e ∷ es) f = ap Some f.0
 
 pick : {A : Type 0} (a b : Bool) (x y z : A) → a ≡ b → y ≡ z → (if a then x else y) ≡ cond b x z
 pick true true x y z p e = refl

@@ -4,3 +4,5 @@ mod Index
 mod Standing
 mod Identifiers
 mod Tables
+mod ListPlaces
+mod Runs

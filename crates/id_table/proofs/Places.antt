@@ -1,7 +1,7 @@
 -- The rows by identifier, where one comes, goes or is written to at its place.
 use Rattle.std.proofs.Common.{◌≡◌, ◌≢◌, ℕ, suc, Bool, true, false, cond, List, [], ◌∷◌, length, Option, Some, None, inl, inr, refl, ap, subst, ◌∙◌, sym}
 use Rattle.std.proofs.lemmas.Bool.{cases_eq}
-use Rattle.std.specs.Prelude.{IsSome}
+use Rattle.std.specs.Prelude.{IsSome, IfNone, IfSome, slice_get}
 use Rattle.std.specs.BTreeMap.{insert_entry, is_at}
 use Rattle.std.specs.List.{AllByRecursion}
 use Rattle.std.specs.Map.{lookup, remove_entry, set_value}
@@ -11,7 +11,7 @@ use Rattle.std.specs.declared.cmp.Ordering.{Ordering}
 use Rattle.std.specs.declared.cmp.Ordering.TheVariants.{Less, Equal, Greater}
 use Rattle.slab.specs.Slab.{Slab, get, with_value}
 use Rattle.slab.proofs.SlabLemmas.{Updates-with_value}
-use Rattle.id_table.specs.Places.{entries_at, first_key, ArePlaces, with_found, changed_entry}
+use Rattle.id_table.specs.Places.{entries_at, ArePlaces, first_key, with_found, changed_entry}
 use Rattle.id_table.specs.declared.row.Row.{Row}
 
 -- a row at a place, before others
@@ -41,14 +41,6 @@ length-step id (Some r) es n h e = ap suc e
 pub length-entries : (s : Slab Row) (ps : List (ℕ × ℕ)) → ArePlaces s ps → length (entries_at s ps) ≡ length ps
 length-entries s [] a = refl
 length-entries s (p ∷ ps) a = length-step p.0 (get s p.1) _ _ a.0 (length-entries s ps a.2)
-
-first-step : (id : ℕ) (o : Option Row) (es : List (ℕ × Row)) → IsSome o → first_key (onto id o es) ≡ Some id
-first-step id None es h = absurd (cc)
-first-step id (Some r) es h = refl
-
-pub first-entries : (s : Slab Row) (ps : List (ℕ × ℕ)) → ArePlaces s ps → first_key (entries_at s ps) ≡ first_key ps
-first-entries s [] a = refl
-first-entries s (p ∷ ps) a = first-step p.0 (get s p.1) _ a.0
 
 lookup-step : (test : ℕ → Bool) (s : Slab Row) (id place : ℕ) (o : Option Row) (es : List (ℕ × Row)) (k : Option ℕ) (b : Bool) → test id ≡ b → get s place ≡ o → IsSome o → lookup test es ≡ option_and_then (get s) k → lookup test (onto id o es) ≡ option_and_then (get s) (cond b (Some place) k)
 lookup-step test s id place None es k b t g h e = absurd (cc)
@@ -199,3 +191,14 @@ remove-absent test (e ∷ es) h = by (test e.0) h (remove-absent test es)
     by : (b : Bool) → cond b (Some e.1) (lookup test es) ≡ None → (lookup test es ≡ None → remove_entry test es ≡ es) → cond b es (e ∷ remove_entry test es) ≡ e ∷ es
     by true g later = absurd (cc)
     by false g later = ap (λ l. e ∷ l) (later g)
+
+-- the key of the first entry is that of the first place
+pub first-of : (s : Slab Row) (ps : List (ℕ × ℕ)) (o : Option ℕ) → ArePlaces s ps → IfNone o (ps ≡ []) → IfSome o (λ id. (place : ℕ) × (slice_get ps 0 ≡ Some (id, place))) → o ≡ first_key (entries_at s ps)
+first-of s [] None h none some = refl
+first-of s [] (Some id) h none some = absurd (let bad : ◌≡◌ {A = Option (ℕ × ℕ)} None (Some (id, some.0)) = some.1 in cc)
+first-of s (p ∷ ps) None h none some = absurd (let bad : p ∷ ps ≡ [] = none in cc)
+first-of s (p ∷ ps) (Some id) h none some = by (get s p.1) h.0
+  where
+    by : (o : Option Row) → IsSome o → Some id ≡ first_key (elim o [ None ↦ entries_at s ps | Some r ↦ (p.0, r) ∷ entries_at s ps ])
+    by None g = absurd (let bad : false ≡ true = g in cc)
+    by (Some r) g = let e : p ≡ (id, some.0) = let e = some.1 in cc in ap (λ (q : ℕ × ℕ). Some q.0) (sym e)

@@ -12,15 +12,15 @@ abbrev pub entries_at : Slab Row → List (ℕ × ℕ) → List (ℕ × Row)
 entries_at s [] = []
 entries_at s (p ∷ ps) = elim (get s p.1) [ None ↦ entries_at s ps | Some r ↦ (p.0, r) ∷ entries_at s ps ]
 
--- the first identifier
-abbrev pub first_key : {X : Type 0} → List (ℕ × X) → Option ℕ
-first_key [] = None
-first_key (e ∷ es) = Some e.0
-
 -- each place has a row, and no two are one
 abbrev pub ArePlaces : Slab Row → List (ℕ × ℕ) → Type 0
 ArePlaces s [] = ⊤
 ArePlaces s (p ∷ ps) = IsSome (get s p.1) × AllByRecursion (λ q. q.1 ≢ p.1) ps × ArePlaces s ps
+
+-- the key of the first entry
+abbrev pub first_key : List (ℕ × Row) → Option ℕ
+first_key [] = None
+first_key (e ∷ es) = Some e.0
 
 -- the entries, of which that of the identifier, where it was found, was changed
 abbrev pub with_found : (Row → Row) → ℕ → List (ℕ × Row) → Option Row → List (ℕ × Row)

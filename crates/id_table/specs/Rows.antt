@@ -16,7 +16,7 @@ abbrev pub id_of : OpName → List Row → Option ℕ
 id_of op [] = None
 id_of op (r ∷ rs) = if same_op r.op op then Some r.id else id_of op rs
 
--- the lowest identifier: that of the first row, since they rise
+-- the lowest identifier
 abbrev pub first_id : List Row → Option ℕ
 first_id [] = None
 first_id (r ∷ rs) = Some r.id

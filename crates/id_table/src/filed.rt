@@ -1,9 +1,9 @@
-ghost use Rattle.std.specs.Prelude.{◌≡◌, ◌≤◌, [], None, length, OnOk, OnErr};
+ghost use Rattle.std.specs.Prelude.{◌≡◌, ◌≤◌, ℕ, [], None, Some, length, slice_get, OnOk, OnErr, IfNone, IfSome};
 ghost use Rattle.std.specs.BTreeMap.{insert_entry, is_at};
 ghost use Rattle.std.specs.Map.{lookup, remove_entry};
 ghost use Rattle.std.specs.Option.{option_copied};
 ghost use Rattle.std.specs.Ordering.{nat_cmp};
-ghost use Rattle.id_table.specs.Places.{changed_entry, first_key};
+ghost use Rattle.id_table.specs.Places.{first_key, changed_entry};
 ghost use Rattle.id_table.specs.Rows.{answered, kept_back};
 
 use crate::row::{Kept, Row};
@@ -33,6 +33,17 @@ impl Model for FiledRows {
     ghost invariant = { λ f. ArePlaces f.rows f.places.entries };
 }
 
+/// The lowest identifier that has a place.
+fn first_of(places: &BTreeMap<u32, usize>) -> Option<u32>
+    ensures none { IfNone result (places.now.entries ≡ []) }
+    ensures first { IfSome result (λ id. (place : ℕ) × (slice_get places.now.entries 0 ≡ Some (id, place))) }
+{
+    match places.first_key_value() {
+        Some((id, _)) => Some(*id),
+        None => None,
+    }
+}
+
 impl FiledRows {
     /// No row. It takes no memory.
     pub(crate) fn new(alloc: Global) -> FiledRows
@@ -56,8 +67,7 @@ impl FiledRows {
     pub(crate) fn first(&self) -> Option<u32>
         ensures { result ≡ first_key self.now }
     {
-        let (id, _) = self.places.first_key_value()?;
-        Some(*id)
+        first_of(&self.places)
     }
 
     /// The row of an identifier.

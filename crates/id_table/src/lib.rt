@@ -6,10 +6,14 @@
 //! and one that goes leaves all others as they were; for want of memory nothing changes.
 #![tactic(auto)]
 
+mod calls;
 mod filed;
 mod given;
+pub mod laws;
+mod list;
 mod live;
 mod row;
+mod rows;
 mod table;
 #[cfg(test)]
 mod tests;

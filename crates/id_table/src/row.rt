@@ -1,4 +1,6 @@
-use lload_names::{Body, OpKind, OpName};
+ghost use Rattle.std.specs.Prelude.{◌≡◌, IfOk};
+
+use lload_names::{Body, NoMemory, OpKind, OpName};
 
 /// A Bind's success that is kept back until its identity is known, and the identifier of the message that asks for it.
 #[derive(Debug, Drop)]
@@ -18,4 +20,37 @@ pub struct Row {
     pub sent: u64,
     pub last: u64,
     pub kept: Option<Kept>,
+}
+
+impl Kept {
+    /// The same again.
+    pub fn copy(&self) -> Result<Kept, NoMemory>
+        ensures { IfOk result (λ kept. kept ≡ self.now) }
+    {
+        Ok(Kept {
+            rest: self.rest.copy()?,
+            who: self.who,
+        })
+    }
+}
+
+impl Row {
+    /// The same row again.
+    pub fn copy(&self) -> Result<Row, NoMemory>
+        ensures { IfOk result (λ row. row ≡ self.now) }
+    {
+        let kept = match &self.kept {
+            Some(kept) => Some(kept.copy()?),
+            None => None,
+        };
+        Ok(Row {
+            id: self.id,
+            op: self.op,
+            kind: self.kind,
+            ask_who: self.ask_who,
+            sent: self.sent,
+            last: self.last,
+            kept,
+        })
+    }
 }

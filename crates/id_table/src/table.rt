@@ -7,42 +7,45 @@ ghost use Rattle.id_table.specs.Table.{empty, gave, used_up, touched_at, kept_at
 use crate::given::GivenIds;
 use crate::live::LiveRows;
 use crate::row::{Kept, Row};
+use crate::rows::Rows;
 use lload_names::{NoMemory, OpKind, OpName};
 use std::alloc::Global;
 use std::marker::Model;
 
-/// The live rows of a connection by rising identifier, its identifiers, and the limit at which it retires. Each call
-/// costs the logarithm of the live rows at most.
+/// The live rows of a connection by rising identifier, its identifiers, and the limit at which it retires.
 #[derive(Drop)]
-pub struct IdTable {
-    live: LiveRows,
+pub struct TableOf<R: Rows> {
+    live: R,
     ids: GivenIds,
     limit: u32,
 }
 
-impl Model for IdTable {
+/// A table of which each call costs the logarithm of the live rows at most.
+pub type IdTable = TableOf<LiveRows>;
+
+impl<R: Rows> Model for TableOf<R> {
     ghost use Rattle.id_table.specs.Table.{Table, IsTable};
 
     ghost Value = { Table };
 
     ghost use Rattle.std.specs.Prelude.{◌≤◌, length};
 
-    ghost view = { λ t. record { rows = t.live; ids = t.ids.ids; limit = t.limit } };
+    ghost view = { λ t. record { rows = R.seen t.live; ids = t.ids.ids; limit = t.limit } };
 
-    ghost invariant = { λ t. IsTable (record { rows = t.live; ids = t.ids.ids; limit = t.limit }) × (length t.live ≤ t.ids.spare) };
+    ghost invariant = { λ t. IsTable (record { rows = R.seen t.live; ids = t.ids.ids; limit = t.limit }) × (length (R.seen t.live) ≤ t.ids.spare) };
 }
 
-impl IdTable {
+impl<R: Rows> TableOf<R> {
     /// A table without rows whose first identifier is 1. Identifiers from `limit` on retire the connection. It takes
     /// no memory.
-    pub fn new(alloc: Global, limit: u32) -> Result<IdTable, NoMemory>
+    pub fn new(alloc: Global, limit: u32) -> Result<TableOf<R>, NoMemory>
         requires least { 2 ≤ limit }
         requires most { limit ≤ 1073741823 }
         ensures empty { result ≡ Ok (empty limit) }
         ensures table { IfOk result (λ t. IsTable t) }
     {
-        Ok(IdTable {
-            live: LiveRows::new(alloc),
+        Ok(TableOf {
+            live: R::new(alloc),
             ids: GivenIds::new(alloc),
             limit,
         })
@@ -91,13 +94,6 @@ impl IdTable {
         id
     }
 
-    /// The identifier that the next operation gets. It takes no memory.
-    pub fn upcoming(&self) -> u32
-        ensures { result ≡ id_for self.now.ids }
-    {
-        self.ids.first()
-    }
-
     /// Whether the next identifier is at most twice the limit, so that `own` may give it. It takes no memory.
     pub fn may_own(&self) -> bool
         ensures { result ≡ may_own self.now }
@@ -105,11 +101,20 @@ impl IdTable {
         self.ids.next() <= 2 * self.limit
     }
 
-    /// The limit at which the connection retires.
+    /// The limit at which the connection retires. It takes no memory.
     pub fn limit(&self) -> u32
-        ensures { result ≡ self.now.limit }
+        ensures limit { result ≡ self.now.limit }
+        ensures table { IsTable self.now }
     {
         self.limit
+    }
+
+    /// The identifier that `give` would give now. It takes no memory.
+    pub fn upcoming(&self) -> u32
+        ensures id { result ≡ id_for self.now.ids }
+        ensures table { IsTable self.now }
+    {
+        self.ids.first()
     }
 
     /// How many rows are live. It takes no memory.

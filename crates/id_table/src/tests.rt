@@ -1,5 +1,7 @@
 use super::*;
+use crate::laws::{Call, ListTable, run};
 use lload_names::{Body, OpKind, OpName};
+use std::alloc::Global;
 use std::test::Fail;
 
 fn op(k: u64) -> OpName {
@@ -19,93 +21,69 @@ fn own(table: &mut IdTable) -> u32 {
     if table.at_limit() { 0 } else { table.own() }
 }
 
-/// The table as plain lists: the live rows as identifiers with numbers of operations, and the free identifiers.
-#[derive(Drop)]
-struct Lists {
-    rows: Vec<(u32, u64)>,
-    free: Vec<u32>,
-    next: u32,
+/// The next number of a linear congruence of 64 bits.
+fn next_random(random: u64) -> u64 {
+    random
+        .wrapping_mul(6_364_136_223_846_793_005)
+        .wrapping_add(1_442_695_040_888_963_407)
 }
 
-impl Lists {
-    fn give(&mut self, k: u64) -> Result<u32, Fail> {
-        let id = match self.free.first() {
-            Some(id) => *id,
-            None => self.next,
-        };
-        self.rows.push((id, k))?;
-        if self.free.is_empty() {
-            self.next = self.next.wrapping_add(1);
-        } else {
-            self.free.remove(0);
+/// The call that a drawn number means: every second one gives an identifier, and the others are for one of the
+/// identifiers that may have been given.
+fn drawn_call(alloc: Global, random: u64, k: u64) -> Result<Call, Fail> {
+    let id = (random >> 40) as u32 % 1000;
+    Ok(match random >> 61 {
+        0 => Call::End(id),
+        1 => Call::Finish(id),
+        2 => Call::Touch { id, now: k },
+        3 => {
+            let rest = Body::from_slice(alloc, b"\x61")?;
+            let kept = Kept { rest, who: 7 };
+            Call::Keep { id, now: k, kept }
         }
-        Ok(id)
-    }
-
-    fn end(&mut self, id: u32) -> bool {
-        match self.rows.iter().position(|row| row.0 == id) {
-            Some(place) => {
-                self.rows.swap_remove(place);
-                true
-            }
-            None => false,
-        }
-    }
-
-    fn finish(&mut self, id: u32) -> Result<bool, Fail> {
-        let found = self.end(id);
-        if found {
-            self.free.push(id)?;
-        }
-        Ok(found)
-    }
-
-    fn number(&self, id: u32) -> Option<u64> {
-        for row in self.rows.iter() {
-            if row.0 == id {
-                return Some(row.1);
-            }
-        }
-        None
-    }
+        4 => Call::Own,
+        _ => Call::Give {
+            op: op(k),
+            kind: OpKind::Search,
+            ask_who: false,
+            now: k,
+        },
+    })
 }
 
-/// Whether a table and the lists have the same rows, and the table finds each.
-fn are_same(table: &IdTable, lists: &Lists) -> bool {
-    for id in 1..lists.next {
-        let number = lists.number(id);
-        if table.row(id).map(|row| row.op.k) != number {
-            return false;
-        }
-        if let Some(k) = number
-            && table.find(op(k)) != Some(id)
-        {
-            return false;
+/// Drawn calls by their number; behind each hundredth, each row that may be live is looked up by its identifier and by
+/// its operation.
+fn drawn_calls(alloc: Global, count: u64) -> Result<Vec<Call>, Fail> {
+    let mut calls = Vec::new(alloc);
+    let mut random = 1u64;
+    for k in 0..count {
+        random = next_random(random);
+        calls.push(drawn_call(alloc, random, k)?)?;
+        if k % 100 == 99 {
+            for id in 0..1200 {
+                calls.push(Call::Row(id))?;
+            }
+            for other in 0..=k {
+                calls.push(Call::Find(op(other)))?;
+            }
+            calls.push(Call::AtLimit)?;
         }
     }
-    true
+    Ok(calls)
 }
 
 #[test]
-fn two_thousand_calls_leave_the_rows_of_plain_lists(rt: HostRuntime) -> Result<(), Fail> {
+fn two_thousand_calls_leave_the_same_rows_in_both_forms(rt: HostRuntime) -> Result<(), Fail> {
+    let calls = drawn_calls(rt.alloc(), 2000)?;
     let mut table = IdTable::new(rt.alloc(), 1_073_741_823)?;
-    let mut lists = Lists {
-        rows: Vec::new(rt.alloc()),
-        free: Vec::new(rt.alloc()),
-        next: 1,
-    };
-    let mut random = 1u64;
-    for k in 0..2000 {
-        random = random
-            .wrapping_mul(6_364_136_223_846_793_005)
-            .wrapping_add(1_442_695_040_888_963_407);
-        let id = (random >> 40) as u32 % lists.next.max(1);
-        match random >> 62 {
-            0 => assert_eq!(rt; table.end(id).is_some(), lists.end(id)),
-            1 => assert_eq!(rt; table.finish(id).is_some(), lists.finish(id)?),
-            _ => assert_eq!(rt; given(&mut table, k)?, lists.give(k)?),
-        }
-        assert!(rt; are_same(&table, &lists));
+    let mut list = ListTable::new(rt.alloc(), 1_073_741_823)?;
+    let answers = run(rt.alloc(), &mut table, calls.as_slice())?;
+    let others = run(rt.alloc(), &mut list, calls.as_slice())?;
+    assert_eq!(rt; answers.len(), calls.len());
+    assert!(rt; 100 < table.len());
+    for (answer, other) in answers.iter().zip(others.iter()) {
+        let text = format!(in rt.alloc(); "{answer:?}")?;
+        assert_eq!(rt; text, format!(in rt.alloc(); "{other:?}")?);
     }
     Ok(())
 }

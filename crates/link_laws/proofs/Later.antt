@@ -34,7 +34,7 @@ stamps_each q n (x ∷ xs) = by (same_part q x.to) (stamps_each q n xs)
     by true h = ap suc h
     by false h = h
 
-given_count : (q : PartName) (ts : List Turn) → length (stamps_given q ts) ≡ length (letters_to q (letters_of ts))
+pub given_count : (q : PartName) (ts : List Turn) → length (stamps_given q ts) ≡ length (letters_to q (letters_of ts))
 given_count q [] = refl
 given_count q (t ∷ ts) =
     length-append (stamp_each_to q t.stamp t.letters) (stamps_given q ts)
@@ -55,7 +55,7 @@ marks_each p n (m ∷ ms) = by m.mark (marks_each p n ms)
     by None h = h
     by (Some t) h = one (same_part p t.sender) t.letter h
 
-taken_count : (p : PartName) (ts : List Turn) → length (stamps_taken p ts) ≡ length (taken_from p (list_of_turns ts))
+pub taken_count : (p : PartName) (ts : List Turn) → length (stamps_taken p ts) ≡ length (taken_from p (list_of_turns ts))
 taken_count p [] = refl
 taken_count p (t ∷ ts) =
     length-append (stamp_each_from p t.stamp t.entries) (stamps_taken p ts)
@@ -66,11 +66,11 @@ taken_count p (t ∷ ts) =
 
 -- More stamps.
 
-given_grows : (q : PartName) (ts us : List Turn) → stamps_given q (ts ++ us) ≡ stamps_given q ts ++ stamps_given q us
+pub given_grows : (q : PartName) (ts us : List Turn) → stamps_given q (ts ++ us) ≡ stamps_given q ts ++ stamps_given q us
 given_grows q [] us = refl
 given_grows q (t ∷ ts) us = ap (λ l. stamp_each_to q t.stamp t.letters ++ l) (given_grows q ts us) ∙ sym (append_assoc (stamp_each_to q t.stamp t.letters) (stamps_given q ts) (stamps_given q us))
 
-taken_grows : (p : PartName) (ts us : List Turn) → stamps_taken p (ts ++ us) ≡ stamps_taken p ts ++ stamps_taken p us
+pub taken_grows : (p : PartName) (ts us : List Turn) → stamps_taken p (ts ++ us) ≡ stamps_taken p ts ++ stamps_taken p us
 taken_grows p [] us = refl
 taken_grows p (t ∷ ts) us = ap (λ l. stamp_each_from p t.stamp t.entries ++ l) (taken_grows p ts us) ∙ sym (append_assoc (stamp_each_from p t.stamp t.entries) (stamps_taken p ts) (stamps_taken p us))
 
@@ -109,7 +109,7 @@ none_stamped : (a : PartName) (n : ℕ) (es : List Entry) → stamp_each_from a 
 none_stamped a n [] = refl
 none_stamped a n (e ∷ es) = plain_stamps a n es
 
-one_stamped : (a : PartName) (n : ℕ) (mark : Option Taken) (e : Effects) → has_entry e ≡ true → stamp_each_from a n (marked_by mark e.entries) ≡ (elim (is_from a mark) [ true ↦ n ∷ [] | false ↦ [] ])
+pub one_stamped : (a : PartName) (n : ℕ) (mark : Option Taken) (e : Effects) → has_entry e ≡ true → stamp_each_from a n (marked_by mark e.entries) ≡ (elim (is_from a mark) [ true ↦ n ∷ [] | false ↦ [] ])
 one_stamped a n mark e k = by e.entries k
   where
     by : (es : List Entry) → (elim es [ [] ↦ false | x ∷ xs ↦ true ]) ≡ true → stamp_each_from a n (marked_by mark es) ≡ (elim (is_from a mark) [ true ↦ n ∷ [] | false ↦ [] ])

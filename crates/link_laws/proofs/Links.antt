@@ -111,7 +111,7 @@ nothing_taken a false es = refl
 nothing_taken a true [] = refl
 nothing_taken a true (e ∷ es) = no_marks a es
 
-one_taken : (a : PartName) (mark : Option Taken) (e : Effects) → has_entry e ≡ true → taken_from a (marked_by mark e.entries) ≡ letter_from a mark
+pub one_taken : (a : PartName) (mark : Option Taken) (e : Effects) → has_entry e ≡ true → taken_from a (marked_by mark e.entries) ≡ letter_from a mark
 one_taken a mark e k = by e.entries k
   where
     by : (es : List Entry) → (elim es [ [] ↦ false | x ∷ xs ↦ true ]) ≡ true → taken_from a (marked_by mark es) ≡ letter_from a mark

@@ -66,7 +66,7 @@ turns_more s p mark e w q =
     ∙ ap (λ l. turns_in w q ++ l) (turn_those (same_part q p) (turn_made p mark e w))
 
 -- what an intake gives in a world is what it gives behind the part's list
-same_effects : (s : Settings) (w : World) (p : PartName) (x : Intake) → StatesAreOfLists s w → effects_in s w p x ≡ turn_behind s p (list_in w p) x
+pub same_effects : (s : Settings) (w : World) (p : PartName) (x : Intake) → StatesAreOfLists s w → effects_in s w p x ≡ turn_behind s p (list_in w p) x
 same_effects s w Desk (Takes i) h = ap (λ p. desk_turn s p i) h.desk
 same_effects s w Desk (Severed now why) h = refl
 same_effects s w (Client c) (Takes i) h = ap (λ p. client_turn s p i) (h.clients c)

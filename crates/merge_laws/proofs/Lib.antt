@@ -1,0 +1,5 @@
+mod Quiet
+mod Earliest
+mod Steps
+mod Named
+mod Merged
