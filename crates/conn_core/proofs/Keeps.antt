@@ -1,14 +1,17 @@
 -- What is kept beside the view, where a row comes, goes or is answered.
-use Rattle.std.proofs.Common.{◌≡◌, ◌<◌, ◌^◌, ℕ, ◌+◌, ◌*◌, ◌≤◌, Bool, false, List, length, None, arith, refl, ap, ◌∙◌, sym, subst}
+use Rattle.std.proofs.Common.{◌≡◌, ◌<◌, ◌^◌, ℕ, ◌+◌, ◌*◌, ◌≤◌, Bool, true, false, if◌then◌else◌, List, [], ◌∷◌, length, Some, None, arith, refl, ap, ◌∙◌, sym, subst}
 use Rattle.std.specs.BTreeMap.{insert_entry, is_at}
 use Rattle.std.specs.Map.{remove_entry, set_value}
 use Rattle.std.specs.Ordering.{nat_cmp}
 use Rattle.lload_names.specs.declared.names.Entry.{Entry}
 use Rattle.lload_names.specs.declared.names.Posted.{Posted}
+use Rattle.std.specs.Prelude.{IfSome}
+use Rattle.lload_names.specs.declared.names.OpName.{OpName}
+use Rattle.lload_names.specs.Same.{same_op}
 use Rattle.outbox.specs.Room.{Room}
 use Rattle.id_table.specs.declared.row.Row.{Row}
 use Rattle.id_table.specs.declared.row.Kept.{Kept}
-use Rattle.id_table.specs.Rows.{row_of, put, without, changed, answered, kept_back}
+use Rattle.id_table.specs.Rows.{row_of, id_of, Rises, put, without, changed, answered, kept_back}
 use Rattle.id_table.specs.Table.{Table, IsTable}
 use Rattle.conn_core.specs.Conn.{IsKept}
 use Rattle.conn_core.specs.Kept.{moments_of}
@@ -17,6 +20,18 @@ use Rattle.conn_core.proofs.Rows.{put-length, without-length, changed-length}
 
 pub few-rows : (t : Table) → IsTable t → length t.rows < 2 ^ 32
 few-rows t h = omega (arith, rises-length 1 t.ids.next t.rows h.rises, h.fits, h.most)
+
+small-step : (op : OpName) (low next : ℕ) (rows : List Row) → next ≤ 2 ^ 31 → Rises low rows next → IfSome (id_of op rows) (λ id. id < 2 ^ 31)
+small-step op low next [] l h = tt
+small-step op low next (r ∷ rs) l h = by (same_op r.op op) (small-step op (r.id + 1) next rs l h.1)
+  where
+    by : (b : Bool) → IfSome (id_of op rs) (λ id. id < 2 ^ 31) → IfSome (if b then Some r.id else id_of op rs) (λ id. id < 2 ^ 31)
+    by true k = let few = rises-length (r.id + 1) next rs h.1 in omega (arith, few, l)
+    by false k = k
+
+-- identifiers stand in a message
+pub small-id : (op : OpName) (t : Table) → IsTable t → IfSome (id_of op t.rows) (λ id. id < 2 ^ 31)
+small-id op t h = small-step op 1 t.ids.next t.rows (omega (arith, h.fits, h.most)) h.rises
 
 module _ {d : Bool} {t : Table} {ms : List (ℕ × ℕ)} {e : Room Entry} {l : Room Posted} (k : IsKept d t ms e l) where
   pub kept-gone : (id : ℕ) (u : Table) (ns : List (ℕ × ℕ)) → IsTable u → u.rows ≡ without id t.rows → ns ≡ remove_entry (is_at (nat_cmp id)) ms → IsKept d u ns e l

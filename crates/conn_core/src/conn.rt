@@ -1,4 +1,4 @@
-ghost use Rattle.std.specs.Prelude.{◌≡◌, ◌==◌, ◌≤◌, ◌<◌, ◌^◌, ◌+◌, ◌*◌, ◌++◌, ◌∷◌, [], max, true, false, length, map, filter, IfOk, OnOk, OnErr, MatchOption};
+ghost use Rattle.std.specs.Prelude.{◌≡◌, ◌==◌, ◌≤◌, ◌<◌, ◌^◌, ◌+◌, ◌*◌, ◌++◌, ◌∷◌, [], max, true, false, length, map, filter, IfSome, IfOk, OnOk, OnErr, MatchOption};
 ghost use Rattle.std.specs.Option.{option_copied};
 ghost use Rattle.lload_spec.specs.Identifiers.{id_for};
 ghost use Rattle.id_table.specs.Rows.{row_of, id_of};
@@ -11,8 +11,8 @@ ghost use Rattle.conn_core.specs.Closing.{closing_letters, given_whats, retired_
 ghost use Rattle.lload_names.specs.declared.names.PartName.TheVariants.{Desk, Client};
 ghost use Rattle.part_spec.specs.Inputs.{entries_of, to};
 
-use id_table::{IdTable, Kept, Row};
 use crate::closing::lose_all;
+use id_table::{IdTable, Kept, Row};
 use lload_names::{
     ConnKind, EndWhy, Entry, Letter, NoMemory, OpKind, OpName, PartName, Posted, What,
 };
@@ -138,7 +138,8 @@ impl ConnCore {
 
     /// The lowest identifier under which an operation is live.
     pub fn find(&self, op: OpName) -> Option<u32>
-        ensures { result ≡ id_of op self.now.table.rows }
+        ensures lowest { result ≡ id_of op self.now.table.rows }
+        ensures small { IfSome result (λ id. id < 2 ^ 31) }
     {
         self.table.find(op)
     }
@@ -258,7 +259,12 @@ impl ConnCore {
     }
 
     /// Makes room in an outbox for the connection's end, and for so many entries and letters beside it.
-    pub fn reserve_end(&self, entries: usize, letters: usize, out: &mut Outbox) -> Result<(), NoMemory>
+    pub fn reserve_end(
+        &self,
+        entries: usize,
+        letters: usize,
+        out: &mut Outbox,
+    ) -> Result<(), NoMemory>
         requires entries { entries ≤ 1000 }
         requires letters { letters ≤ 1000 }
         ensures entries { out.new.entries.items ≡ out.old.entries.items }
@@ -280,6 +286,8 @@ impl ConnCore {
         ensures letters { out.new.letters.items ≡ out.old.letters.items ++ closing_letters self.old.number self.old.kind self.old.table.rows holder }
         ensures closed { self.new ≡ record self.old { moment = at; down = true; table = record self.old.table { rows = [] } } }
         ensures table { IsTable self.new.table }
+        ensures entry_room { out.new.entries.spare + 1 ≡ out.old.entries.spare }
+        ensures letter_room { out.old.letters.spare ≤ out.new.letters.spare + (2 * length self.old.table.rows + 2) }
     {
         self.moment = at;
         self.down = true;

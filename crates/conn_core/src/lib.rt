@@ -9,6 +9,8 @@
 mod closing;
 mod conn;
 mod settings;
+#[cfg(test)]
+mod tests;
 
 pub use conn::ConnCore;
 pub use settings::{OwnBindBytes, UpSettings};

@@ -127,6 +127,7 @@ sent-knows s u w at op kind ask going linked up plain none new table k =
         };
         plain = is_plain;
         own = own_same u.own k.steady.own;
+        fresh = λ h. absurd (let bad : true ≡ false = sym linked ∙ h in cc);
         idle = λ h. absurd (let bad : true ≡ false = sym up ∙ h in cc);
       };
     })

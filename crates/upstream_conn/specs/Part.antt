@@ -52,6 +52,7 @@ pub record IsSteady (u : UpstreamPart) : Type 0 where
   pub sound : IsSound u.core
   pub plain : ArePlain u.core.table.rows
   pub own : OwnIsGiven u.core u.own
+  pub fresh : u.core.linked ≡ false → u.own ≡ None
   pub idle : u.core.up ≡ false → u.core.table.rows ≡ []
 
 -- it is of these settings, and steady

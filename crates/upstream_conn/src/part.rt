@@ -45,7 +45,7 @@ impl UpstreamPart {
     ghost use Rattle.lload_names.specs.declared.names.PartName.TheVariants.{Desk};
     ghost use Rattle.lload_names.specs.declared.names.Letter.TheVariants.{Ended};
     ghost use Rattle.upstream_conn.specs.declared.told.OwnTold.TheVariants.{Success};
-    ghost use Rattle.upstream_conn.specs.declared.told.Told.TheVariants.{More, Last};
+    ghost use Rattle.upstream_conn.specs.declared.told.Told.TheVariants.{Unfit, More, Last};
     ghost use Rattle.upstream_conn.specs.Told.{own_told, told_of, is_dropped};
     ghost use Rattle.conn_core.specs.Closing.{closing_letters};
     ghost use Rattle.id_table.specs.Table.{IsTable};
@@ -205,8 +205,7 @@ impl UpstreamPart {
     /// A message for the own Bind, which succeeded: the connection is up.
     fn own_success(&mut self, at: u64, id: u32, rest: Body, out: &mut Outbox) -> Result<(), NoMemory>
         requires there { (self.old.core.linked ≡ true) × (self.old.core.down ≡ false) }
-        requires own { ForSome self.old.own (λ w. w.id ≡ id) }
-        requires waits { IsSome self.old.own }
+        requires own { under_own id self.old.own ≡ true }
         requires told { own_told rest ≡ Success }
         ensures did { OnOk result ((s : Settings) (mark : Option Taken) → Knows s self.old → Did s (state self.old) at mark (message (state self.old) at (record { id = id; rest = rest })) out.old out.new (state self.new)) }
         ensures knows { OnOk result ((s : Settings) → Knows s self.old → Knows s self.new) }
@@ -296,6 +295,22 @@ impl UpstreamPart {
         out.reserve(2, 2)?;
         self.core.put(at, What::Got { id, rest }, out);
         self.core.moved(at);
+        Ok(())
+    }
+
+    /// A message that can't answer the operation that it is under: the connection ends.
+    fn misfit(&mut self, at: u64, id: u32, rest: Body, out: &mut Outbox) -> Result<(), NoMemory>
+        requires there { self.old.core.down ≡ false }
+        requires row { ForSome (row_of id self.old.core.table.rows) (λ r. told_of r.kind rest ≡ Unfit) }
+        requires live { IsSome (row_of id self.old.core.table.rows) }
+        requires other { under_own id self.old.own ≡ false }
+        ensures did { OnOk result ((s : Settings) (mark : Option Taken) → Knows s self.old → Did s (state self.old) at mark (message (state self.old) at (record { id = id; rest = rest })) out.old out.new (state self.new)) }
+        ensures knows { OnOk result ((s : Settings) → Knows s self.old → Knows s self.new) }
+        ensures room { OnOk result ((1 ≤ out.new.entries.spare) × (2 ≤ out.new.letters.spare)) }
+        ensures out { OnErr result ((out.new.entries.items ≡ out.old.entries.items) × (out.new.letters.items ≡ out.old.letters.items)) }
+        ensures err { OnErr result (self.new ≡ self.old) }
+    {
+        self.fall(at, id, rest, self.own, EndWhy::Bad, out)?;
         Ok(())
     }
 }
