@@ -21,14 +21,14 @@ invariant_of-self-in-Ok c =
     (fresh c.self.inside.table c.self.invariant.sound)
     c.in-Ok.ensures.table
     (ap (λ (t : Table). t.rows) c.in-Ok.ensures.gave)
-    (ap (λ (w : Waiting). w.moments) c.in_ok-start.ensures.started ∙ ap (λ i. insert_entry nat_cmp c.self.inside.deadlines.moments i c.args.at) c.upcoming-id.ensures)
+    (ap (λ (w : Waiting). w.moments) c.in_ok-start.ensures.started ∙ ap (λ i. insert_entry nat_cmp c.self.inside.deadlines.moments i c.args.at) c.upcoming-id.ensures.id)
     c.in_ok-reserve.ensures.items
     (omega (arith, c.len.ensures.len, c.in_ok-reserve.ensures.spare))
 
 pub invariant_of-self-in-Err : goal.invariant_of-self-in-Err
 invariant_of-self-in-Err c =
     kept-undone c.self.invariant c.upcoming-id.result c.args.at _ _ _ _
-    (ap (λ i. row_of i c.self.inside.table.rows) c.upcoming-id.ensures ∙ fresh c.self.inside.table c.self.invariant.sound)
+    (ap (λ i. row_of i c.self.inside.table.rows) c.upcoming-id.ensures.id ∙ fresh c.self.inside.table c.self.invariant.sound)
     c.in-Err.ensures.err
     (ap (λ (w : Waiting). w.moments) c.in_ok-start.ensures.started)
     (ap (λ (w : Waiting). w.moments) c.stop.ensures.stopped)
