@@ -48,10 +48,10 @@ unfit-by false false y w h k v = v
 unfit-by true f y w h k v = absurd (let bad : true ≡ false = h in cc)
 unfit-by false true y w h k v = absurd (let bad : true ≡ false = k in cc)
 
-fit-by : (a b x : Bool) → a ≡ true → b ≡ false → (not a || b && x) ≡ false
-fit-by true false x h k = refl
-fit-by false b x h k = absurd (let bad : false ≡ true = h in cc)
-fit-by true true x h k = absurd (let bad : true ≡ false = k in cc)
+fit-by : (a b x y : Bool) → a ≡ true → b ≡ false → (not a || b && x && y) ≡ false
+fit-by true false x y h k = refl
+fit-by false b x y h k = absurd (let bad : false ≡ true = h in cc)
+fit-by true true x y h k = absurd (let bad : true ≡ false = k in cc)
 
 misfit-by : (a y : Bool) → a ≡ false → (not a || y) ≡ true
 misfit-by false y h = refl
@@ -89,7 +89,7 @@ module _ (c : Conn) (own : Option OwnWait) (waiting : List ℕ) (at : ℕ) (m : 
     asked-is = ap (bad.is_bad_for f m) (find-request m.id c.table.rows plain ∙ ap asked found)
 
     pub fit-good : fits r.kind m.rest ≡ true → bad.is_bad f m ≡ false
-    fit-good fit = good-by (bad.is_ignored m) (bad.is_for_own f m) (bad.is_bad_own m) (bad.is_bad_other f m) for-own (asked-is ∙ fit-by (fits r.kind m.rest) (same_kind Bind r.kind) _ fit (plain-at m.id c.table.rows r plain found).kind)
+    fit-good fit = good-by (bad.is_ignored m) (bad.is_for_own f m) (bad.is_bad_own m) (bad.is_bad_other f m) for-own (asked-is ∙ fit-by (fits r.kind m.rest) (same_kind Bind r.kind) _ _ fit (plain-at m.id c.table.rows r plain found).kind)
 
     pub unfit-bad : 1 ≤ m.id → fits r.kind m.rest ≡ false → bad.is_bad f m ≡ true
     unfit-bad given fit = unfit-by (bad.is_ignored m) (bad.is_for_own f m) (bad.is_bad_own m) (bad.is_bad_other f m) (ap (λ b. b && tag_of m.rest == extended_response) (let z : (m.id == 0) ≡ false = grind (arith, nat_tests, given) in z)) for-own (asked-is ∙ misfit-by (fits r.kind m.rest) _ fit)

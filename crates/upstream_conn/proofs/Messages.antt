@@ -111,7 +111,7 @@ module _ (at : ℕ) (m : Message) where
   unfit-pick false l x y z h = refl
   unfit-pick true l x y z h = absurd (let bad : true ≡ false = h in cc)
 
-  bind-pick : (b : Bool) (y : List UpRow) → b ≡ false → (elim b [ false ↦ [] | true ↦ y ]) ≡ []
+  bind-pick : (b : Bool) (y : List UpRow) → b ≡ false → ◌≡◌ {A = List UpRow} (elim b [ false ↦ [] | true ↦ y ]) []
   bind-pick false y h = refl
   bind-pick true y h = absurd (let bad : true ≡ false = h in cc)
 
@@ -139,7 +139,7 @@ module _ (at : ℕ) (m : Message) where
 
 -- The state behind a message.
 
-gap : (t : Bool) → (if t then None else None) ≡ None {A = OpName}
+gap : (t : Bool) → ◌≡◌ {A = Option OpName} (if t then None else None) None
 gap true = refl
 gap false = refl
 
