@@ -1,29 +1,25 @@
 -- A message that takes the connection down.
-use Rattle.std.proofs.Common.{◌≡◌, ℕ, zero, suc, ◌+◌, ◌*◌, ◌≤◌, arith, Bool, true, false, ◌==◌, ◌&&◌, not, if◌then◌else◌, List, [], ◌∷◌, ◌++◌, map, length, Option, Some, None, refl, ap, ◌∙◌, sym, subst}
-use Rattle.std.proofs.lemmas.Bool.Decides.{nat_tests}
-use Rattle.std.specs.Prelude.{flat_map, find}
+use Rattle.std.proofs.Common.{◌≡◌, ℕ, zero, suc, ◌+◌, ◌*◌, ◌≤◌, arith, true, false, List, [], ◌∷◌, ◌++◌, map, length, Option, Some, None, refl, ap, ◌∙◌, sym, subst}
+use Rattle.std.specs.Prelude.{flat_map}
 use Rattle.ldap_spec.specs.Messages.{Message}
-use Rattle.ldap_spec.specs.Tags.{success, bind_response}
-use Rattle.ldap_spec.specs.Kinds.{fits, is_final, tag_of}
-use Rattle.ldap_spec.specs.Responses.{has_code}
+use Rattle.ldap_spec.specs.Kinds.{fits, is_final}
 use Rattle.lload_names.specs.declared.names.ConnKind.{ConnKind}
 use Rattle.lload_names.specs.declared.names.ConnKind.TheVariants.{Regular, Bind as BindKind}
 use Rattle.lload_names.specs.declared.names.EndWhy.{EndWhy}
-use Rattle.lload_names.specs.declared.names.EndWhy.TheVariants.{Bad as BadEnd, OwnBind as OwnBindFailed}
+use Rattle.lload_names.specs.declared.names.EndWhy.TheVariants.{Bad as BadEnd}
 use Rattle.lload_names.specs.declared.names.Posted.{Posted}
 use Rattle.lload_names.specs.declared.names.PartName.TheVariants.{Desk, Up as Connection}
 use Rattle.lload_names.specs.declared.names.Letter.TheVariants.{Ended, IsDown}
 use Rattle.lload_names.specs.declared.names.Refusal.TheVariants.{C4}
 use Rattle.lload_names.specs.declared.names.What.TheVariants as what
 use Rattle.lload_names.specs.Same.{is_kind}
-use Rattle.lload_spec.specs.BadMessages as bad
 use Rattle.lload_spec.specs.Settings.{Settings, is_of_kind}
 use Rattle.id_table.specs.declared.row.Row.{Row}
 use Rattle.id_table.specs.Rows.{row_of, Rises}
 use Rattle.id_table.specs.Table.{Table, IsTable}
 use Rattle.part_spec.specs.Marked.{Taken}
 use Rattle.part_spec.specs.Inputs.{Act, act, also, to, failed, entries_of}
-use Rattle.part_spec.specs.ConnectionState.{ConnectionState, OwnWait as UpWait, with_got, message_facts}
+use Rattle.part_spec.specs.ConnectionState.{ConnectionState, OwnWait as UpWait, with_got}
 use Rattle.part_spec.specs.ConnectionTurn.{goes_down, loss}
 use Rattle.part_spec.specs.RegularTurn.{message}
 use Rattle.outbox.specs.declared.outbox.Outbox.{Outbox}
@@ -99,8 +95,7 @@ fall-knows s u v at own end request table given fresh k =
 -- a message that can't answer the operation that it is under
 pub unfit-is : (u : UpstreamPart) (at id : ℕ) (rest : List ℕ) (r : Row) → ArePlain u.core.table.rows → Rises 1 u.core.table.rows u.core.table.ids.next → under_own id u.own ≡ false → row_of id u.core.table.rows ≡ Some r → told_of r.kind rest ≡ Unfit → (with_got at (record { id = id; rest = rest }) (state u) ≡ state u) × (message (state u) at (record { id = id; rest = rest }) ≡ also (act (what.Got id rest ∷ []) []) (goes_down (state u) BadEnd))
 unfit-is u at id rest r plain rises other found told =
-    let m : Message = record { id = id; rest = rest } in
-    (
+    let m : Message = record { id = id; rest = rest } in (
       got-unfit u.core u.own u.waiting at m plain other r found rises told,
       message-bad u.core u.own u.waiting at m plain other (unfit-bad u.core u.own u.waiting at m plain other r found (given id refl) (told-unfit (fits r.kind rest) (is_final r.kind rest) told)),
     )

@@ -1,5 +1,5 @@
 -- What a rule for a message makes.
-use Rattle.std.proofs.Common.{◌≡◌, ℕ, ◌+◌, ◌*◌, ◌≤◌, arith, Bool, true, false, ◌==◌, List, [], ◌∷◌, ◌++◌, Option, Some, None, refl, ap, ◌∙◌, sym, subst}
+use Rattle.std.proofs.Common.{◌≡◌, ℕ, arith, Bool, true, false, ◌==◌, List, [], ◌∷◌, ◌++◌, Option, Some, None, refl, ap, ◌∙◌, sym, subst}
 use Rattle.std.proofs.lemmas.List.{append-nil}
 use Rattle.ldap_spec.specs.Messages.{Message}
 use Rattle.lload_names.specs.declared.names.PartName.TheVariants.{Up as Connection}
@@ -7,16 +7,15 @@ use Rattle.lload_names.specs.declared.names.OpName.{OpName}
 use Rattle.lload_names.specs.declared.names.What.TheVariants as what
 use Rattle.lload_spec.specs.Settings.{Settings}
 use Rattle.id_table.specs.declared.row.Row.{Row}
-use Rattle.id_table.specs.Rows.{row_of, id_of, without, changed, answered as answered_row}
-use Rattle.id_table.specs.Table.{Table, IsTable, touched_at, finished_at}
+use Rattle.id_table.specs.Rows.{row_of, id_of, changed, answered as answered_row}
+use Rattle.id_table.specs.Table.{IsTable, touched_at}
 use Rattle.part_spec.specs.Marked.{Taken}
 use Rattle.part_spec.specs.Inputs.{Act, act, nothing, also, reply, entries_of}
 use Rattle.part_spec.specs.ConnectionState.{ConnectionState, UpRow, is_under, is_under_own, message_facts}
-use Rattle.part_spec.specs.ConnectionTurn.{behind_act, comes_up, goes_down, ended, latency}
+use Rattle.part_spec.specs.ConnectionTurn.{comes_up, goes_down}
 use Rattle.lload_spec.specs.BadMessages as bad
-use Rattle.lload_names.specs.declared.names.Posted.{Posted}
 use Rattle.lload_names.specs.declared.names.PartName.TheVariants.{Desk}
-use Rattle.lload_names.specs.declared.names.Letter.TheVariants.{IsUp, Ended}
+use Rattle.lload_names.specs.declared.names.Letter.TheVariants.{IsUp}
 use Rattle.lload_names.specs.declared.names.EndWhy.TheVariants.{OwnBind as OwnBindFailed, Bad as BadEnd}
 use Rattle.ldap_spec.specs.Tags.{success, bind_response}
 use Rattle.ldap_spec.specs.Kinds.{tag_of}
@@ -25,22 +24,22 @@ use Rattle.std.specs.Prelude.{find, length, IsSome, if◌then◌else◌, not}
 use Rattle.std.specs.Option.{ForSome}
 use Rattle.part_spec.specs.RegularTurn.{message, drops, abandons, own_answer, answered, row_answer}
 use Rattle.outbox.specs.declared.outbox.Outbox.{Outbox}
-use Rattle.conn_core.specs.Conn.{Conn, state_of}
+use Rattle.conn_core.specs.Conn.{Conn}
 use Rattle.conn_core.specs.Did.{Did}
 use Rattle.conn_core.specs.Kept.{open_rows, ArePlain}
 use Rattle.conn_core.proofs.Plain.{named-none}
-use Rattle.conn_core.proofs.Rows.{changed-length, without-length}
+use Rattle.conn_core.proofs.Rows.{changed-length}
 use Rattle.upstream_conn.specs.Part.{Knows, OwnIsGiven, state, up_wait, under_own}
 use Rattle.upstream_conn.specs.Told.{told_of, own_told, is_dropped}
 use Rattle.upstream_conn.specs.declared.part.UpstreamPart.{UpstreamPart}
-use Rattle.upstream_conn.specs.declared.told.Told.TheVariants.{More, Last}
+use Rattle.upstream_conn.specs.declared.told.Told.TheVariants.{More}
 use Rattle.upstream_conn.specs.declared.told.OwnTold.{OwnTold}
 use Rattle.upstream_conn.specs.declared.told.OwnTold.TheVariants as told
 use Rattle.upstream_conn.specs.declared.part.OwnWait.{OwnWait}
 use Rattle.upstream_conn.proofs.Sound.{once-answered, plain-answered, open-plain}
-use Rattle.upstream_conn.proofs.Messages.{told-more, told-last, for-own-is, under-own-is, got-own}
+use Rattle.upstream_conn.proofs.Messages.{told-more, for-own-is, under-own-is, got-own}
 use Rattle.ldap_spec.specs.Kinds.{fits, is_final}
-use Rattle.upstream_conn.proofs.Meets.{dropped-good, none-answered, message-good, got-none, fit-good, some-answered, row-answers, got-more, got-last}
+use Rattle.upstream_conn.proofs.Meets.{dropped-good, none-answered, message-good, got-none, fit-good, some-answered, row-answers, got-more}
 
 pub ignore-did : (s : Settings) (u : UpstreamPart) (o q : Outbox) (at id : ℕ) (rest : List ℕ) (mark : Option Taken) → Knows s u → row_of id u.core.table.rows ≡ None → under_own id u.own ≡ false → is_dropped u.core.table.ids.next id rest ≡ true → q.entries.items ≡ o.entries.items ++ entries_of (Connection u.core.number) at (what.Got id rest ∷ []) → q.letters.items ≡ o.letters.items → Did s (state u) at mark (message (state u) at (record { id = id; rest = rest })) o q (state (record u { core = record u.core { moment = at } }))
 ignore-did s u o q at id rest mark k none other drop entries letters =
@@ -98,11 +97,11 @@ success-did s u o q at id rest mark own h entries letters =
     let good : bad.is_bad (message_facts p) m ≡ false = own-good (bad.is_ignored m) (bad.is_for_own (message_facts p) m) (bad.is_bad_own m) (bad.is_bad_other (message_facts p) m) (for-own-is m u.own u.core u.waiting ∙ own) (ap not t.0) in
     let under : is_under_own p id ≡ true = under-own-is id u.own u.core u.waiting ∙ own in
     let ans : answered p at m ≡ comes_up p =
-        ap (λ (b : Bool). let a : Act = elim b [ true ↦ own_answer p m | false ↦ elim (find (is_under m.id) p.rows) [ None ↦ nothing | Some r ↦ row_answer p at m r ] ] in a) under
-        ∙ ap (λ (b : Bool). let a : Act = elim b [ true ↦ comes_up p | false ↦ goes_down p OwnBindFailed ] in a) t.1 in
+    ap (λ (b : Bool). let a : Act = elim b [ true ↦ own_answer p m | false ↦ elim (find (is_under m.id) p.rows) [ None ↦ nothing | Some r ↦ row_answer p at m r ] ] in a) under
+    ∙ ap (λ (b : Bool). let a : Act = elim b [ true ↦ comes_up p | false ↦ goes_down p OwnBindFailed ] in a) t.1 in
     let is : message p at m ≡ also (act (what.Got id rest ∷ []) []) (comes_up p) =
-        ap (λ (b : Bool). let x : Act = elim b [ true ↦ goes_down p BadEnd | false ↦ answered p at m ] in also (act (what.Got id rest ∷ []) []) x) good
-        ∙ ap (λ (x : Act). also (act (what.Got id rest ∷ []) []) x) ans in
+    ap (λ (b : Bool). let x : Act = elim b [ true ↦ goes_down p BadEnd | false ↦ answered p at m ] in also (act (what.Got id rest ∷ []) []) x) good
+    ∙ ap (λ (x : Act). also (act (what.Got id rest ∷ []) []) x) ans in
     subst (λ (a : Act). Did s p at mark a o q (state (record u { core = record u.core { moment = at; up = true }; own = None }))) (sym is) (record {
       entries = entries;
       letters = letters;

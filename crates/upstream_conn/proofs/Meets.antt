@@ -1,36 +1,31 @@
 -- Which messages are bad, what a message gives, and the state behind it, by what it is under.
-use Rattle.std.proofs.Common.{◌≡◌, ℕ, suc, ◌+◌, ◌≤◌, Bool, true, false, ◌==◌, ◌&&◌, ◌||◌, not, if◌then◌else◌, List, [], ◌∷◌, ◌++◌, map, Option, Some, None, arith, refl, ap, ◌∙◌, sym, subst}
+use Rattle.std.proofs.Common.{◌≡◌, ℕ, ◌≤◌, Bool, true, false, ◌==◌, ◌&&◌, ◌||◌, not, if◌then◌else◌, List, [], ◌∷◌, ◌++◌, map, Option, Some, None, arith, refl, ap, ◌∙◌}
 use Rattle.std.proofs.lemmas.Bool.Decides.{nat_tests}
 use Rattle.std.proofs.lemmas.List.{append-nil}
-use Rattle.std.specs.Prelude.{nat_lt, flat_map, find, is_none}
+use Rattle.std.specs.Prelude.{nat_lt, flat_map, find}
 use Rattle.std.specs.List.{list_any}
 use Rattle.ldap_spec.specs.Messages.{Message}
-use Rattle.ldap_spec.specs.Tags.{extended_response, bind_response, success}
+use Rattle.ldap_spec.specs.Tags.{extended_response}
 use Rattle.ldap_spec.specs.Kinds.{fits, is_final, is_response, same_kind, tag_of}
-use Rattle.ldap_spec.specs.Responses.{result_code, has_code}
-use Rattle.lload_names.specs.declared.names.OpName.{OpName}
 use Rattle.lload_names.specs.declared.names.OpKind.TheVariants.{Bind}
 use Rattle.lload_names.specs.declared.names.EndWhy.TheVariants.{Bad}
 use Rattle.lload_names.specs.declared.names.What.TheVariants as what
 use Rattle.lload_spec.specs.BadMessages as bad
 use Rattle.lload_spec.specs.BadMessages.{OpenRequest, MessageFacts}
-use Rattle.lload_spec.specs.Settings.{Settings}
-use Rattle.lload_spec.specs.Identifiers.{Ids}
 use Rattle.id_table.specs.declared.row.Row.{Row}
 use Rattle.id_table.specs.Rows.{row_of, without, changed, answered as answered_row, Rises}
-use Rattle.part_spec.specs.Marked.{Taken}
 use Rattle.part_spec.specs.Inputs.{Act, act, nothing, also, reply}
-use Rattle.part_spec.specs.ConnectionState.{ConnectionState, UpRow, OwnWait as UpWait, is_under, is_under_own, behind_message, freed_id, with_got, message_facts, open_request, step_connection}
-use Rattle.part_spec.specs.ConnectionTurn.{goes_down, takes_down, ended, latency}
+use Rattle.part_spec.specs.ConnectionState.{ConnectionState, UpRow, is_under, is_under_own, behind_message, freed_id, with_got, message_facts, open_request}
+use Rattle.part_spec.specs.ConnectionTurn.{goes_down, ended, latency}
 use Rattle.part_spec.specs.RegularTurn.{answered, own_answer, row_answer, message}
 use Rattle.conn_core.specs.Conn.{Conn, state_of}
-use Rattle.conn_core.specs.Kept.{up_row, up_found, IsPlain, ArePlain}
+use Rattle.conn_core.specs.Kept.{up_row, up_found, ArePlain}
 use Rattle.conn_core.proofs.Plain.{flat-none, flat-gone, flat-changed, skip-none, skip-one, find-under, find-request, none-under-who, asked}
 use Rattle.upstream_conn.specs.Part.{up_wait, under_own}
 use Rattle.upstream_conn.specs.Told.{told_of, is_dropped}
 use Rattle.upstream_conn.specs.declared.part.OwnWait.{OwnWait}
 use Rattle.upstream_conn.specs.declared.told.Told.TheVariants.{Unfit, More, Last}
-use Rattle.upstream_conn.proofs.Messages.{under-own-is, for-own-is, told-more, told-last, told-unfit, id-is, plain-at, leaves, skips, more-row, last-row, unfit-row, more-frees, last-frees, unfit-frees, got-other, got-own}
+use Rattle.upstream_conn.proofs.Messages.{under-own-is, for-own-is, plain-at, leaves, skips, more-row, last-row, unfit-row, more-frees, last-frees, unfit-frees, got-other}
 
 stray-by : (ign f y g r x z w : Bool) → f ≡ false → w ≡ (if x then z else not (g && r)) → x ≡ false → (ign || (g && r)) ≡ true → (if ign then false else if f then y else w) ≡ false
 stray-by true f y g r x z w h v k e = refl

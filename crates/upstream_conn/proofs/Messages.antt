@@ -1,26 +1,20 @@
 -- A message at a regular connection: what it meets, and the state behind it.
-use Rattle.std.proofs.Common.{◌≡◌, ℕ, suc, ◌+◌, ◌≤◌, Bool, true, false, ◌==◌, ◌&&◌, ◌||◌, not, if◌then◌else◌, List, [], ◌∷◌, ◌++◌, map, Option, Some, None, arith, refl, ap, ◌∙◌, sym, subst}
-use Rattle.std.proofs.lemmas.Bool.Decides.{nat_tests}
-use Rattle.std.proofs.lemmas.List.{append-nil}
-use Rattle.std.specs.Prelude.{nat_lt, flat_map, find}
-use Rattle.std.specs.List.{list_any}
+use Rattle.std.proofs.Common.{◌≡◌, ℕ, Bool, true, false, ◌==◌, if◌then◌else◌, List, [], ◌∷◌, ◌++◌, map, Option, Some, None, refl, ap, ◌∙◌, sym, subst}
+use Rattle.std.specs.Prelude.{flat_map}
 use Rattle.ldap_spec.specs.Messages.{Message}
-use Rattle.ldap_spec.specs.Tags.{extended_response, bind_response, success}
-use Rattle.ldap_spec.specs.Kinds.{fits, is_final, is_response, same_kind, tag_of}
-use Rattle.ldap_spec.specs.Responses.{result_code, has_code}
+use Rattle.ldap_spec.specs.Kinds.{fits, is_final, same_kind}
 use Rattle.lload_names.specs.declared.names.OpName.{OpName}
-use Rattle.lload_names.specs.declared.names.OpKind.{OpKind}
 use Rattle.lload_names.specs.declared.names.OpKind.TheVariants.{Bind}
 use Rattle.lload_spec.specs.BadMessages as bad
 use Rattle.lload_spec.specs.BadMessages.{OpenRequest, MessageFacts}
 use Rattle.id_table.specs.declared.row.Row.{Row}
-use Rattle.id_table.specs.Rows.{row_of, without, changed, answered, Rises}
-use Rattle.part_spec.specs.ConnectionState.{ConnectionState, UpRow, OwnWait as UpWait, is_under, is_under_who, is_under_own, is_bind_row, behind_final, behind_answer, behind_who, behind_message, freed_id, frees_holder, with_got, message_facts, open_request}
+use Rattle.id_table.specs.Rows.{row_of, answered}
+use Rattle.part_spec.specs.ConnectionState.{ConnectionState, UpRow, OwnWait as UpWait, is_under, is_under_who, is_under_own, behind_message, freed_id, frees_holder, with_got, message_facts}
 use Rattle.conn_core.specs.Conn.{Conn, state_of}
 use Rattle.conn_core.specs.Kept.{up_row, IsPlain, ArePlain}
-use Rattle.conn_core.proofs.Plain.{Leaves, Skips, flat-none, flat-gone, flat-changed, skip-none, skip-one, under-is, who-is, find-request, none-under-who, asked}
+use Rattle.conn_core.proofs.Plain.{Leaves, Skips, under-is, who-is}
 use Rattle.upstream_conn.specs.Part.{up_wait, under_own}
-use Rattle.upstream_conn.specs.Told.{told_of, is_dropped}
+use Rattle.upstream_conn.specs.Told.{told_of}
 use Rattle.upstream_conn.specs.declared.part.OwnWait.{OwnWait}
 use Rattle.upstream_conn.specs.declared.told.Told.{Told}
 use Rattle.upstream_conn.specs.declared.told.Told.TheVariants.{Unfit, More, Last}

@@ -1,7 +1,6 @@
 -- A Forward that is sent.
-use Rattle.std.proofs.Common.{◌≡◌, ℕ, suc, ◌+◌, ◌*◌, ◌≤◌, ◌<◌, max, Bool, true, false, ◌==◌, ◌||◌, if◌then◌else◌, List, [], ◌∷◌, ◌++◌, length, map, Option, Some, None, arith, refl, ap, ◌∙◌, sym, subst}
+use Rattle.std.proofs.Common.{◌≡◌, ℕ, ◌≤◌, Bool, true, false, ◌==◌, ◌||◌, if◌then◌else◌, List, [], ◌∷◌, ◌++◌, length, Option, Some, None, arith, refl, ap, ◌∙◌, sym, subst}
 use Rattle.std.proofs.lemmas.Bool.Decides.{nat_tests}
-use Rattle.std.specs.Prelude.{nat_lt}
 use Rattle.lload_names.specs.declared.names.OpName.{OpName}
 use Rattle.lload_names.specs.declared.names.OpKind.{OpKind}
 use Rattle.lload_names.specs.declared.names.OpKind.TheVariants.{Bind}
@@ -9,8 +8,6 @@ use Rattle.lload_names.specs.declared.names.ConnKind.{ConnKind}
 use Rattle.lload_names.specs.declared.names.ConnKind.TheVariants.{Regular, Bind as BindKind}
 use Rattle.lload_names.specs.declared.names.PartName.{PartName}
 use Rattle.lload_names.specs.declared.names.PartName.TheVariants.{Desk, Up as Connection}
-use Rattle.lload_names.specs.declared.names.Posted.{Posted}
-use Rattle.lload_names.specs.declared.names.Letter.{Letter}
 use Rattle.lload_names.specs.declared.names.Letter.TheVariants.{Forward, IsRetired}
 use Rattle.lload_names.specs.declared.names.What.{What}
 use Rattle.lload_names.specs.declared.names.What.TheVariants as what
@@ -18,22 +15,22 @@ use Rattle.lload_names.specs.Same.{same_kind, is_kind}
 use Rattle.lload_spec.specs.Settings.{Settings}
 use Rattle.lload_spec.specs.Identifiers.{id_for}
 use Rattle.id_table.specs.declared.row.Row.{Row}
-use Rattle.id_table.specs.Rows.{row_of, id_of, put, sent_row}
-use Rattle.id_table.specs.Table.{Table, IsTable, gave, passes_limit}
+use Rattle.id_table.specs.Rows.{id_of, put, sent_row}
+use Rattle.id_table.specs.Table.{IsTable, gave, passes_limit}
 use Rattle.part_spec.specs.Marked.{Taken}
 use Rattle.part_spec.specs.Inputs.{Act, act, to, entries_of, marked_by}
-use Rattle.part_spec.specs.ConnectionState.{ConnectionState, UpRow, OwnWait as UpWait, is_bind, is_stopped, holder_sent, step_connections}
-use Rattle.part_spec.specs.ConnectionTurn.{giving, retires, behind_act}
+use Rattle.part_spec.specs.ConnectionState.{ConnectionState, UpRow, OwnWait as UpWait, is_stopped, step_connections}
+use Rattle.part_spec.specs.ConnectionTurn.{giving, retires}
 use Rattle.part_spec.specs.RegularTurn.{forwards}
 use Rattle.outbox.specs.declared.outbox.Outbox.{Outbox}
-use Rattle.conn_core.specs.Conn.{Conn, state_of, Agrees, IsSound}
-use Rattle.conn_core.specs.Kept.{up_row, open_rows, ArePlain}
+use Rattle.conn_core.specs.Conn.{Conn, state_of, IsSound}
+use Rattle.conn_core.specs.Kept.{open_rows, ArePlain}
 use Rattle.conn_core.specs.Closing.{given_whats, retired_letters}
 use Rattle.conn_core.specs.Did.{Did}
 use Rattle.conn_core.proofs.Moments.{rises-length}
 use Rattle.conn_core.proofs.Rows.{put-length, fresh}
 use Rattle.conn_core.proofs.Plain.{rows-put}
-use Rattle.upstream_conn.specs.Part.{Knows, Fits, IsSteady, OwnIsGiven, state, up_wait}
+use Rattle.upstream_conn.specs.Part.{Knows, OwnIsGiven, state, up_wait}
 use Rattle.upstream_conn.specs.declared.part.OwnWait.{OwnWait}
 use Rattle.upstream_conn.specs.declared.part.UpstreamPart.{UpstreamPart}
 use Rattle.upstream_conn.proofs.Sound.{none-has, once-put, plain-put, open-plain, first-le, passes-given}

@@ -1,20 +1,14 @@
 -- What stands of a connection, where a row comes, goes or is answered.
-use Rattle.std.proofs.Common.{◌≡◌, ℕ, suc, ◌+◌, ◌*◌, ◌≤◌, ◌<◌, max, Bool, true, false, ◌==◌, not, if◌then◌else◌, List, [], ◌∷◌, filter, length, Option, Some, None, arith, refl, ap, ◌∙◌, sym}
+use Rattle.std.proofs.Common.{◌≡◌, ℕ, suc, ◌≤◌, max, Bool, true, false, ◌==◌, if◌then◌else◌, List, [], ◌∷◌, Option, Some, None, arith, refl, ap, ◌∙◌, sym}
 use Rattle.std.proofs.lemmas.Bool.Decides.{nat_tests}
 use Rattle.std.specs.Prelude.{nat_lt, is_none, cond}
 use Rattle.lload_names.specs.declared.names.OpName.{OpName}
-use Rattle.lload_names.specs.declared.names.OpKind.{OpKind}
-use Rattle.lload_names.specs.declared.names.OpKind.TheVariants.{Bind}
-use Rattle.lload_names.specs.Same.{same_op, same_kind}
-use Rattle.lload_spec.specs.Identifiers.{Ids, id_for, with_sent_id}
+use Rattle.lload_names.specs.Same.{same_op}
+use Rattle.lload_spec.specs.Identifiers.{Ids, id_for}
 use Rattle.id_table.specs.declared.row.Row.{Row}
 use Rattle.id_table.specs.Given.{AreIds}
-use Rattle.id_table.specs.Rows.{row_of, id_of, put, without, changed, answered, sent_row, Rises}
-use Rattle.id_table.specs.Table.{Table, IsTable, gave, used_up, ended_at, finished_at, touched_at, passes_limit}
+use Rattle.id_table.specs.Rows.{id_of, put, without, changed, answered}
 use Rattle.conn_core.specs.Kept.{has_op, EachOnce, open_rows, IsPlain, ArePlain}
-use Rattle.conn_core.specs.Conn.{Conn, IsSound}
-use Rattle.conn_core.proofs.Moments.{rises-length}
-use Rattle.conn_core.proofs.Rows.{put-length, without-length, changed-length, finished-rows}
 use Rattle.conn_core.proofs.Plain.{same-sym}
 
 -- Operations.

@@ -10,9 +10,9 @@ ghost use Rattle.lload_spec.specs.Settings.{Settings, is_of_kind};
 ghost use Rattle.id_table.specs.Rows.{row_of, id_of};
 ghost use Rattle.id_table.specs.Table.{passes_limit};
 
-use conn_core::{ConnCore, UpSettings};
 use crate::told::{OwnTold, Told, own_told, told_of};
 use crate::waiting::Waiting;
+use conn_core::{ConnCore, UpSettings};
 use ldap_messages::{abandon_rest, response_kind};
 use lload_names::{
     Body, ConnKind, EndWhy, Input, Letter, NoMemory, OpKind, OpName, PartName, Refusal, What,
@@ -134,7 +134,8 @@ impl UpstreamPart {
         ensures entries { out.new.entries ≡ out.old.entries }
     {
         let conn = self.core.number();
-        self.core.tell_desk(Letter::Ended { op, conn, latency }, out);
+        self.core
+            .tell_desk(Letter::Ended { op, conn, latency }, out);
     }
 
     /// A Drop of an operation that isn't live: it is idle.
@@ -203,7 +204,13 @@ impl UpstreamPart {
     }
 
     /// A message for the own Bind, which succeeded: the connection is up.
-    fn own_success(&mut self, at: u64, id: u32, rest: Body, out: &mut Outbox) -> Result<(), NoMemory>
+    fn own_success(
+        &mut self,
+        at: u64,
+        id: u32,
+        rest: Body,
+        out: &mut Outbox,
+    ) -> Result<(), NoMemory>
         requires there { (self.old.core.linked ≡ true) × (self.old.core.down ≡ false) }
         requires own { under_own id self.old.own ≡ true }
         requires told { own_told rest ≡ Success }
@@ -224,7 +231,14 @@ impl UpstreamPart {
     }
 
     /// A message that is an answer to a live operation, and not the last.
-    fn answer(&mut self, at: u64, id: u32, op: OpName, rest: Body, out: &mut Outbox) -> Result<(), NoMemory>
+    fn answer(
+        &mut self,
+        at: u64,
+        id: u32,
+        op: OpName,
+        rest: Body,
+        out: &mut Outbox,
+    ) -> Result<(), NoMemory>
         requires row { ForSome (row_of id self.old.core.table.rows) (λ r. (r.op ≡ op) × (told_of r.kind rest ≡ More)) }
         requires live { IsSome (row_of id self.old.core.table.rows) }
         requires other { under_own id self.old.own ≡ false }
@@ -263,7 +277,15 @@ impl UpstreamPart {
     }
 
     /// A message that nothing waits for, or that takes the connection down, for a reason.
-    fn fall(&mut self, at: u64, id: u32, rest: Body, own: Option<OwnWait>, why: EndWhy, out: &mut Outbox) -> Result<(), NoMemory>
+    fn fall(
+        &mut self,
+        at: u64,
+        id: u32,
+        rest: Body,
+        own: Option<OwnWait>,
+        why: EndWhy,
+        out: &mut Outbox,
+    ) -> Result<(), NoMemory>
         requires there { self.old.core.down ≡ false }
         ensures entries { OnOk result (out.new.entries.items ≡ out.old.entries.items ++ entries_of (Up self.old.core.number) at (what.Got id rest ∷ what.Down why ∷ [])) }
         ensures letters { OnOk result (out.new.letters.items ≡ out.old.letters.items ++ closing_letters self.old.core.number self.old.core.kind self.old.core.table.rows None) }

@@ -5,7 +5,7 @@ use Rattle.lload_names.specs.declared.names.PartName.TheVariants.{Up as Connecti
 use Rattle.lload_names.specs.declared.names.What.TheVariants as what
 use Rattle.outbox.specs.Room.{Room}
 use Rattle.part_spec.specs.Inputs.{entries_of}
-use Rattle.part_spec.specs.RegularTurn.{message, drops}
+use Rattle.part_spec.specs.RegularTurn.{message}
 use Rattle.conn_core.specs.Conn.{Conn}
 use Rattle.conn_core.specs.Did.{Did}
 use Rattle.upstream_conn.specs.Part.{state}

@@ -1,4 +1,4 @@
-use Rattle.std.proofs.Common.{ℕ, List, ◌==◌, not, filter, ap, sym, ◌∙◌, subst, arith}
+use Rattle.std.proofs.Common.{ℕ, List, ◌==◌, not, filter, ap, sym, ◌∙◌, subst}
 use Rattle.upstream_conn.specs.Waits.{RisesFrom}
 use Rattle.upstream_conn.proofs.Waits.{remove-same, rises-remove}
 use Rattle.upstream_conn.proofs.waiting.Waiting.remove.Goals as goal
