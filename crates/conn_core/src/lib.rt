@@ -9,8 +9,6 @@
 mod closing;
 mod conn;
 mod settings;
-#[cfg(test)]
-mod tests;
 
 pub use conn::ConnCore;
 pub use settings::{OwnBindBytes, UpSettings};
