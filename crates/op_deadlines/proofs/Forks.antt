@@ -6,12 +6,12 @@ use Rattle.std.specs.BTreeMap.{insert_entry, is_at}
 use Rattle.std.specs.Map.{lookup, remove_entry, set_value}
 use Rattle.std.proofs.lemmas.Map.{length-set_value}
 use Rattle.std.proofs.lemmas.List.{append-nil}
-use Rattle.op_deadlines.specs.Due.{is_due, lowest_due}
+use Rattle.op_deadlines.specs.Due.{is_due, lowest_due, all_due}
 use Rattle.op_deadlines.specs.Tree.{entries, earliest, IsNode, Within}
 use Rattle.op_deadlines.specs.declared.tree.Node.{Node}
 use Rattle.op_deadlines.specs.declared.tree.Node.TheVariants.{Fork}
 use Rattle.op_deadlines.specs.declared.tree.Tree.{Tree}
-use Rattle.op_deadlines.proofs.Sides.{or_else, within-wider, within-append, within-set, within-insert, within-remove, insert-some, none-left, earliest-append, none-due, due-append, lookup-below, lookup-above, lookup-low, lookup-high, set-low, set-high, remove-low, remove-high, insert-below, insert-above, insert-low, insert-high}
+use Rattle.op_deadlines.proofs.Sides.{or_else, within-wider, within-append, within-set, within-insert, within-remove, insert-some, none-left, earliest-append, none-due, none-among, among-append, due-append, lookup-below, lookup-above, lookup-low, lookup-high, set-low, set-high, remove-low, remove-high, insert-below, insert-above, insert-low, insert-high}
 
 -- the entries of a fork, and what its bounds say
 pub record AtFork (d l r : List (ℕ × ℕ)) (first split last least : ℕ) : Type 0 where
@@ -57,6 +57,12 @@ module _ {d l r : List (ℕ × ℕ)} {first split last least : ℕ} (f : AtFork 
 
   fork-due : (t now : ℕ) → lowest_due t now d ≡ or_else (lowest_due t now l) (lowest_due t now r)
   fork-due t now = ap (lowest_due t now) f.is ∙ due-append t now first split (last + 1) l r f.low f.high
+
+  pub fork-none-among : (t now : ℕ) → is_due t now least ≡ false → all_due t now d ≡ []
+  fork-none-among t now h = none-among t now d (subst (λ (m : ℕ). is_due t now m ≡ false) fork-earliest h)
+
+  pub fork-among : (t now : ℕ) → all_due t now d ≡ all_due t now l ++ all_due t now r
+  fork-among t now = ap (all_due t now) f.is ∙ among-append t now l r
 
   pub fork-low-due : (t now id : ℕ) → lowest_due t now l ≡ Some id → lowest_due t now d ≡ Some id
   fork-low-due t now id h = fork-due t now ∙ ap (λ o. or_else o (lowest_due t now r)) h

@@ -6,7 +6,7 @@ use Rattle.std.specs.declared.cmp.Ordering.{Ordering}
 use Rattle.std.specs.declared.cmp.Ordering.TheVariants.{Less, Equal, Greater}
 use Rattle.std.specs.BTreeMap.{insert_entry, is_at}
 use Rattle.std.specs.Map.{lookup, remove_entry, set_value}
-use Rattle.op_deadlines.specs.Due.{is_due, lower, lowest_due}
+use Rattle.op_deadlines.specs.Due.{is_due, lower, lowest_due, all_due}
 use Rattle.op_deadlines.specs.Tree.{earliest, Within}
 
 -- an identifier is told from one above it and from one below it
@@ -96,6 +96,25 @@ none-due-below t now m (e ∷ es) l h = not-due t now m e (lowest_due t now es) 
 -- where the earliest isn't due, none is
 pub none-due : (t now : ℕ) (es : List (ℕ × ℕ)) → is_due t now (earliest es) ≡ false → lowest_due t now es ≡ None
 none-due t now es h = none-due-below t now (earliest es) es (omega arith) h
+
+not-among : (t now m : ℕ) (e : ℕ × ℕ) (ids : List ℕ) → m ≤ e.1 → is_due t now m ≡ false → ids ≡ [] → (if is_due t now e.1 then e.0 ∷ ids else ids) ≡ []
+not-among t now m e ids l h n = rw (later t now m e.1 (t == 0) l h) n
+
+none-among-below : (t now m : ℕ) (es : List (ℕ × ℕ)) → m ≤ earliest es → is_due t now m ≡ false → all_due t now es ≡ []
+none-among-below t now m [] l h = refl
+none-among-below t now m (e ∷ es) l h = not-among t now m e (all_due t now es) (omega (arith, l)) h (none-among-below t now m es (omega (arith, l)) h)
+
+pub none-among : (t now : ℕ) (es : List (ℕ × ℕ)) → is_due t now (earliest es) ≡ false → all_due t now es ≡ []
+none-among t now es h = none-among-below t now (earliest es) es (omega arith) h
+
+among-step : (b : Bool) (id : ℕ) (xs ys zs : List ℕ) → zs ≡ xs ++ ys → (if b then id ∷ zs else zs) ≡ (if b then id ∷ xs else xs) ++ ys
+among-step true id xs ys zs h = ap (λ l. id ∷ l) h
+among-step false id xs ys zs h = h
+
+-- those that are due on both sides
+pub among-append : (t now : ℕ) (xs ys : List (ℕ × ℕ)) → all_due t now (xs ++ ys) ≡ all_due t now xs ++ all_due t now ys
+among-append t now [] ys = refl
+among-append t now (x ∷ xs) ys = among-step (is_due t now x.1) x.0 _ _ _ (among-append t now xs ys)
 
 -- The lowest that is due.
 

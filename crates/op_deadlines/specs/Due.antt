@@ -18,3 +18,8 @@ lower id (Some other) = min id other
 abbrev pub lowest_due : ℕ → ℕ → List (ℕ × ℕ) → Option ℕ
 lowest_due timeout now [] = None
 lowest_due timeout now (e ∷ es) = if is_due timeout now e.1 then Some (lower e.0 (lowest_due timeout now es)) else lowest_due timeout now es
+
+-- the identifiers that are due, in the order in which they stand
+abbrev pub all_due : ℕ → ℕ → List (ℕ × ℕ) → List ℕ
+all_due timeout now [] = []
+all_due timeout now (e ∷ es) = if is_due timeout now e.1 then e.0 ∷ all_due timeout now es else all_due timeout now es

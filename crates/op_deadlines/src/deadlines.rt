@@ -1,8 +1,8 @@
-ghost use Rattle.std.specs.Prelude.{◌≡◌, [], IsSome, IsOk, OnOk, OnErr};
+ghost use Rattle.std.specs.Prelude.{◌≡◌, [], IsSome, IsOk, IfOk, OnOk, OnErr};
 ghost use Rattle.std.specs.Ordering.{nat_cmp};
 ghost use Rattle.std.specs.BTreeMap.{insert_entry, is_at};
 ghost use Rattle.std.specs.Map.{lookup, remove_entry, set_value};
-ghost use Rattle.op_deadlines.specs.Due.{lowest_due};
+ghost use Rattle.op_deadlines.specs.Due.{lowest_due, all_due};
 
 use crate::tree::Tree;
 use lload_names::NoMemory;
@@ -63,11 +63,28 @@ impl Deadlines {
         self.moments.stop(id);
     }
 
+    /// No identifier waits any more. It takes no memory.
+    pub fn clear(&mut self)
+        ensures { self.new ≡ record { timeout = self.old.timeout; moments = [] } }
+    {
+        self.moments = Tree::new();
+    }
+
     /// The lowest identifier that is due at the moment `now`, in milliseconds; `None` exactly where none is. It takes
     /// no memory.
     pub fn first_due(&self, now: u64) -> Option<u32>
         ensures lowest { result ≡ lowest_due self.now.timeout now self.now.moments }
     {
         self.moments.first_due(self.timeout, now)
+    }
+
+    /// The identifiers that are due at the moment `now`, in milliseconds, by rising identifier. It costs a way down the
+    /// tree for each of them.
+    pub fn all_due(&self, now: u64) -> Result<Vec<u32>, NoMemory>
+        ensures { IfOk result (λ due. due.items ≡ all_due self.now.timeout now self.now.moments) }
+    {
+        let mut due = Vec::new(self.alloc);
+        self.moments.all_due(self.timeout, now, &mut due)?;
+        Ok(due)
     }
 }

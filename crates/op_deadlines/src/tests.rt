@@ -21,6 +21,10 @@ fn a_thousand_identifiers_are_due_in_their_order(rt: HostRuntime) -> Result<(), 
         deadlines.start(id, 1)?;
     }
     assert_eq!(rt; deadlines.first_due(1000), None);
+    let due = deadlines.all_due(1001)?;
+    assert_eq!(rt; due.len(), 1000);
+    assert_eq!(rt; due.first(), Some(&1));
+    assert_eq!(rt; due.last(), Some(&1000));
     for id in 1..1001 {
         assert_eq!(rt; deadlines.first_due(1001), Some(id));
         deadlines.stop(id);

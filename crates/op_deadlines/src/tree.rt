@@ -3,7 +3,7 @@ ghost use Rattle.std.specs.Int.{trailing_zeros, w32};
 ghost use Rattle.std.specs.Ordering.{nat_cmp};
 ghost use Rattle.std.specs.BTreeMap.{insert_entry, is_at};
 ghost use Rattle.std.specs.Map.{lookup, remove_entry, set_value};
-ghost use Rattle.op_deadlines.specs.Due.{is_due, lowest_due};
+ghost use Rattle.op_deadlines.specs.Due.{is_due, lowest_due, all_due};
 ghost use Rattle.op_deadlines.specs.Tree.{entries, earliest, IsNode, Within};
 
 use lload_names::NoMemory;
@@ -102,6 +102,29 @@ impl Tree {
                     Some(id) => Some(id),
                     None => high.first_due(timeout, now),
                 }
+            }
+        }
+    }
+
+    /// Appends the identifiers that are due at a moment, in order. For want of memory some of them may be missing.
+    pub(crate) fn all_due(&self, timeout: u32, now: u64, due: &mut Vec<u32>) -> Result<(), NoMemory>
+        ensures { OnOk result (due.new.items ≡ due.old.items ++ all_due timeout now self.now) }
+    {
+        match &self.node {
+            Node::Empty => Ok(()),
+            Node::Leaf(id, moment) => {
+                if is_past(timeout, *moment, now) {
+                    due.push(*id)?;
+                }
+                Ok(())
+            }
+            Node::Fork(_, _, _, low, high, earliest) => {
+                if !is_past(timeout, *earliest, now) {
+                    return Ok(());
+                }
+                low.all_due(timeout, now, due)?;
+                high.all_due(timeout, now, due)?;
+                Ok(())
             }
         }
     }

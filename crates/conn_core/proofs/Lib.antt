@@ -1,0 +1,4 @@
+pub mod Moments
+pub mod Rows
+pub mod Keeps
+pub mod Plain

@@ -1,0 +1,4 @@
+pub mod Conn
+pub mod Kept
+pub mod Did
+pub mod Closing
