@@ -23,7 +23,7 @@ fn operations_come_go_and_wait(rt: HostRuntime) -> Result<(), Fail> {
     assert_eq!(rt; operations.len(), 2);
     assert!(rt; operations.is_waiting());
     let rest = operations.send(2, 5);
-    assert!(rt; rest.is_some_and(|body| body.as_slice() == b"\x4A\x00"));
+    assert!(rt; rest.is_some_and(|body| body.as_slice() == b"\x4A\x00".as_slice()));
     assert!(rt; !operations.is_waiting());
     assert_eq!(rt; operations.under(9).map(|row| row.k), Some(2));
     assert_eq!(rt; operations.take(1).map(|row| row.id), Some(7));
