@@ -1,5 +1,5 @@
 -- The operations by identifier and by number, where one comes, goes or is sent.
-use Rattle.std.proofs.Common.{◌≡◌, ◌≢◌, ◌≤◌, ◌<◌, ◌+◌, ℕ, suc, Bool, true, false, not, ◌==◌, ◌&&◌, ◌||◌, if◌then◌else◌, cond, List, [], ◌∷◌, ◌++◌, length, find, filter, map, Option, Some, None, arith, refl, ap, ◌∙◌, sym, ⊎_elim}
+use Rattle.std.proofs.Common.{◌≡◌, ◌≢◌, ◌≤◌, ◌<◌, ◌+◌, ℕ, suc, Bool, true, false, not, ◌==◌, ◌&&◌, ◌||◌, if◌then◌else◌, cond, List, [], ◌∷◌, ◌++◌, length, find, filter, map, Option, Some, None, Bor, arith, refl, ap, ◌∙◌, sym, ⊎_elim}
 use Rattle.std.proofs.lemmas.Bool.Decides.{nat_tests}
 use Rattle.std.proofs.lemmas.Bool.{cases_eq}
 use Rattle.std.specs.Prelude.{nat_lt, is_none}
@@ -7,7 +7,7 @@ use Rattle.std.specs.BTreeMap.{BTreeMap, get, is_at}
 use Rattle.std.specs.Ordering.{nat_cmp}
 use Rattle.client_rows.specs.Index.{Indexes}
 use Rattle.std.specs.List.{list_any}
-use Rattle.std.specs.Option.{option_to_list}
+use Rattle.std.specs.Option.{option_to_list, option_copied, IfSome}
 use Rattle.client_rows.specs.Rows.{Counted, has_number, has_id, is_bind, lets_wait, sent, sent_on, went_to, numbers_under, without, Rises, one}
 use Rattle.client_rows.specs.declared.row.Row.{Row}
 use Rattle.client_rows.specs.declared.row.Way.{Way}
@@ -199,3 +199,45 @@ index-without k low rs next r m n h f i down id = by (r.id == id) refl
         let less : length (filter (has_id id) (without k rs)) + 1 ≡ length (filter (has_id id) rs) = rw (t) at count in
         rw (down id, at-id r.id id, t, short _ _ _ (i id) less) refl
     by false t = rw (down id, at-id r.id id, t, same-without (has_id id) k low rs next r h f t) (i id)
+
+some-passes : (p q : Row → Bool) (rs : List Row) (r : Row) → find q rs ≡ Some r → p r ≡ true → 1 ≤ length (filter p rs)
+some-passes p q [] r f t = absurd (let bad : ◌≡◌ {A = Option Row} None (Some r) = f in cc)
+some-passes p q (x ∷ rs) r f t = by (q x) f (λ e. some-passes p q rs r e t)
+  where
+    more : (b : Bool) (xs : List Row) → length xs ≤ length (cond b (x ∷ xs) xs)
+    more true xs = omega arith
+    more false xs = omega arith
+
+    by : (b : Bool) → cond b (Some x) (find q rs) ≡ Some r → (find q rs ≡ Some r → 1 ≤ length (filter p rs)) → 1 ≤ length (cond (p x) (x ∷ filter p rs) (filter p rs))
+    by true e ih =
+        let same : x ≡ r = cc in
+        rw (ap p same, t) (omega arith)
+    by false e ih = omega (arith, ih e, more (p x) (filter p rs))
+
+none-left : (xs : List Row) → length xs ≤ 0 → xs ≡ []
+none-left [] h = refl
+none-left (x ∷ xs) h = absurd (omega (arith, h))
+
+-- the one that is found is the only one that passes
+pub only-passes : (p q : Row → Bool) (rs : List Row) (r : Row) → find q rs ≡ Some r → p r ≡ true → length (filter p rs) ≤ 1 → filter p rs ≡ r ∷ []
+only-passes p q [] r f t l = absurd (let bad : ◌≡◌ {A = Option Row} None (Some r) = f in cc)
+only-passes p q (x ∷ rs) r f t l = by (q x) (p x) refl f l (λ e. only-passes p q rs r e t) (λ e. some-passes p q rs r e t)
+  where
+    by : (b c : Bool) → p x ≡ c → cond b (Some x) (find q rs) ≡ Some r → length (cond c (x ∷ filter p rs) (filter p rs)) ≤ 1 → (find q rs ≡ Some r → length (filter p rs) ≤ 1 → filter p rs ≡ r ∷ []) → (find q rs ≡ Some r → 1 ≤ length (filter p rs)) → cond c (x ∷ filter p rs) (filter p rs) ≡ r ∷ []
+    by true true u e n ih some =
+        let same : x ≡ r = cc in
+        rw (same, none-left (filter p rs) (omega (arith, n))) refl
+    by true false u e n ih some = absurd (let same : x ≡ r = cc in let bad : false ≡ true = sym u ∙ ap p same ∙ t in cc)
+    by false true u e n ih some = absurd (let s = some e in omega (arith, n, s))
+    by false false u e n ih some = ih e n
+
+pub at-most-one : (id : ℕ) (rs : List Row) (o : Option ℕ) → numbers_under id rs ≡ option_to_list o → length (filter (has_id id) rs) ≤ 1
+at-most-one id rs None e = let n = ap (length {A = ℕ}) e in omega (arith, n, map-length (filter (has_id id) rs))
+at-most-one id rs (Some k) e = let n = ap (length {A = ℕ}) e in omega (arith, n, map-length (filter (has_id id) rs))
+
+pub alone-under : (k : ℕ) (m : BTreeMap ℕ ℕ) (rs : List Row) (r : Row) → Indexes m rs → find (has_number k) rs ≡ Some r → filter (has_id r.id) rs ≡ r ∷ []
+alone-under k m rs r i f = only-passes (has_id r.id) (has_number k) rs r f (grind (arith, nat_tests)) (at-most-one r.id rs _ (i r.id))
+
+pub alone-by : (k : ℕ) (m : BTreeMap ℕ ℕ) (rs : List Row) (o : Option (Bor Row)) → Indexes m rs → option_copied o ≡ find (has_number k) rs → IfSome o (λ row. filter (has_id row.now.id) rs ≡ row.now ∷ [])
+alone-by k m rs None i e = tt
+alone-by k m rs (Some r) i e = alone-under k m rs r.now i (sym e)

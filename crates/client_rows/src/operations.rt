@@ -1,7 +1,7 @@
-ghost use Rattle.std.specs.Prelude.{◌≡◌, ◌≤◌, ◌<◌, ◌+◌, ◌++◌, ◌∷◌, [], length, find, filter, map, not, OnOk, OnErr};
+ghost use Rattle.std.specs.Prelude.{◌≡◌, ◌≤◌, ◌<◌, ◌+◌, ◌++◌, ◌∷◌, [], length, find, filter, map, not, OnOk, OnErr, IfSome};
 ghost use Rattle.std.specs.List.{list_any};
 ghost use Rattle.std.specs.Option.{option_copied, option_to_list};
-ghost use Rattle.client_rows.specs.Rows.{has_number, has_id, lets_wait, sent, waiting_body, without};
+ghost use Rattle.client_rows.specs.Rows.{has_number, has_id, lets_wait, sent, waiting_body, without, IsNumbered};
 
 use crate::filed::FiledRows;
 use crate::row::{Row, one};
@@ -86,7 +86,8 @@ impl Operations {
 
     /// The live operation of a number.
     pub fn of(&self, k: u64) -> Option<&Row>
-        ensures { option_copied result ≡ find (has_number k) self.now.rows }
+        ensures found { option_copied result ≡ find (has_number k) self.now.rows }
+        ensures alone { IfSome result (λ row. filter (has_id row.now.id) self.now.rows ≡ row.now ∷ []) }
     {
         self.filed.get(k)
     }
@@ -150,6 +151,7 @@ impl Operations {
     pub fn take(&mut self, k: u64) -> Option<Row>
         ensures row { result ≡ find (has_number k) self.old.rows }
         ensures rest { self.new ≡ record { count = self.old.count; rows = without k self.old.rows } }
+        ensures numbered { IsNumbered self.old }
     {
         let row = self.filed.take(k)?;
         self.numbers.remove(&row.id);

@@ -5,6 +5,7 @@
 //! of the definitions of `lload_spec` and `part_spec`; for want of memory nothing changes.
 #![tactic(auto)]
 
+mod answers;
 mod check;
 mod part;
 mod settings;
