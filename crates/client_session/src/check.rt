@@ -9,6 +9,8 @@ ghost use Rattle.std.specs.Prelude.{ℕ, List};
 ghost use Rattle.lload_spec.specs.Binding.{is_action};
 ghost use Rattle.lload_spec.specs.Settings.{Reject};
 ghost use Rattle.restrictions.specs.Actions.{action_view};
+ghost use Rattle.part_spec.specs.ClientState.{ClientState, check_at};
+ghost use Rattle.client_session.specs.Stands.{Stands};
 ghost use Rattle.client_session.specs.Checks.{check_view, facts, Agrees, HasAction, name_of};
 
 use crate::part::ClientPart;
@@ -26,8 +28,8 @@ const START_TLS: &[u8] = b"1.3.6.1.4.1.1466.20037";
 const CANCEL: &[u8] = b"1.3.6.1.1.8";
 
 /// What the first check that holds of a message does.
-#[derive(Clone, Copy, Debug, Drop)]
-pub(crate) enum Check {
+#[derive(Clone, Copy, Debug, PartialEq, Eq, Drop)]
+pub enum Check {
     /// It ends the client, with the protocol error notice.
     Ends(EndWhy),
     /// The client leaves.
@@ -45,8 +47,18 @@ pub(crate) enum Check {
 }
 
 impl ClientPart {
-    /// What the first check does that holds of a message. It takes no memory.
-    pub(crate) fn check(&self, id: u32, rest: &[u8]) -> Check
+    /// What the first check does that holds of a message, in the order of the checks: it ends the client, takes an
+    /// Unbind or an Abandon, refuses, answers or follows a Cancel, or lets the request go on, with its effective action.
+    /// It takes no memory.
+    pub fn first_check(&self, id: u32, rest: &[u8]) -> Check
+        ensures check { (s : Settings) (p : ClientState) → Stands s p self.now → check_view result ≡ check_at s p (record { id = id; rest = rest.now }) }
+        ensures action { (s : Settings) (p : ClientState) → Stands s p self.now → HasAction s rest.now result }
+    {
+        self.check(id, rest)
+    }
+
+    /// The same, by the facts that the part keeps.
+    fn check(&self, id: u32, rest: &[u8]) -> Check
         ensures check { (s : Settings) → Agrees s self.now.settings → check_view result ≡ check_of s (facts self.now) (record { id = id; rest = rest.now }) }
         ensures action { (s : Settings) → Agrees s self.now.settings → HasAction s rest.now result }
     {
