@@ -104,9 +104,20 @@ answer-asks s at mark rest p r = by (is_final_for r.request rest) (is_bind_row r
 
 pub same-asks : (s : Settings) (q p : ClientState) (d : ClientPart) → q.asked ≡ p.asked → Stands s q d → Stands s (record q { asked = p.asked }) d
 same-asks s q p d e h = record {
-  settings = h.settings; number = h.number; moment = h.moment; arrived = h.arrived; gone = h.gone; live = h.live;
+  settings = h.settings;
+  number = h.number;
+  moment = h.moment;
+  arrived = h.arrived;
+  gone = h.gone;
+  live = h.live;
   asks = subst (λ (a : List AskedFor). Asks q.number q.count a d.asked) e h.asks;
-  identity = h.identity; in_exchange = h.in_exchange; hold = h.hold; binds = h.binds; stalled = h.stalled; paused = h.paused; idle = h.idle;
+  identity = h.identity;
+  in_exchange = h.in_exchange;
+  hold = h.hold;
+  binds = h.binds;
+  stalled = h.stalled;
+  paused = h.paused;
+  idle = h.idle;
 }
 
 one-shown : (s : Settings) (xs : List ClientRow) (v : Seen) → map (seen s) xs ≡ v ∷ [] → (r : ClientRow) × (xs ≡ r ∷ []) × (seen s r ≡ v)

@@ -103,9 +103,18 @@ one-ended s k at p d o r new n f is ended same h =
     let wrote = write-ended s k p.rows d.operations r n h.live.rows_are f in
     let left = filter-through (seen s) shown (λ v. not (v.k == k)) p.rows d.operations.rows h.live.rows_are in
     rw is (record {
-      settings = h.settings; number = h.number; moment = h.moment; arrived = h.arrived; gone = h.gone;
+      settings = h.settings;
+      number = h.number;
+      moment = h.moment;
+      arrived = h.arrived;
+      gone = h.gone;
       live = record { count_is = h.live.count_is; rows_are = left };
-      asks = h.asks; identity = h.identity; in_exchange = h.in_exchange; hold = h.hold;
+      asks = h.asks;
+      identity = h.identity;
+      in_exchange = h.in_exchange;
+      hold = h.hold;
       binds = λ there. rw wrote (binds-ended s k at p.rows d.operations r p.window d.window new (written r) refl n h.live.rows_are f ended same (h.binds there));
-      stalled = h.stalled; paused = h.paused; idle = h.idle;
+      stalled = h.stalled;
+      paused = h.paused;
+      idle = h.idle;
     })
