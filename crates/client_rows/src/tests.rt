@@ -7,14 +7,15 @@ use std::test::Fail;
 fn operations_come_go_and_wait(rt: HostRuntime) -> Result<(), Fail> {
     let alloc = rt.alloc();
     let mut operations = Operations::new(alloc);
-    for (k, id) in [(1, 7), (2, 9)] {
-        if operations.count() + 1 == k && operations.under(id).is_none() {
+    for id in [7, 9] {
+        let count = operations.count();
+        if count < 2 && operations.under(id).is_none() {
             operations.push(Row {
-                k,
+                k: count + 1,
                 id,
                 kind: OpKind::Delete,
                 action: Action::Backend,
-                restricts: k == 2,
+                restricts: count == 1,
                 who: None,
                 way: Way::Waits(Body::from_slice(alloc, b"\x4A\x00")?),
             })?;
@@ -28,10 +29,10 @@ fn operations_come_go_and_wait(rt: HostRuntime) -> Result<(), Fail> {
     assert_eq!(rt; operations.under(9).map(|row| row.k), Some(2));
     assert_eq!(rt; operations.take(1).map(|row| row.id), Some(7));
     assert!(rt; operations.of(1).is_none());
-    let k = operations.count() + 1;
-    if k == 3 {
+    let count = operations.count();
+    if count == 2 {
         operations.replace(Row {
-            k,
+            k: count + 1,
             id: 7,
             kind: OpKind::Bind,
             action: Action::Ignore,
