@@ -9,8 +9,6 @@
 mod harbour;
 mod link;
 mod poller;
-#[cfg(test)]
-mod tests;
 
 pub use harbour::TcpHarbour;
 pub use link::TcpLink;
