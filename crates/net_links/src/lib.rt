@@ -9,6 +9,8 @@
 mod harbour;
 mod link;
 mod poller;
+#[cfg(test)]
+mod tests;
 
 pub use harbour::TcpHarbour;
 pub use link::TcpLink;
