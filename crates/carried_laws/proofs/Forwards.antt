@@ -58,7 +58,7 @@ agrees_same true = refl
 agrees_same false = refl
 
 others_right : (s : Settings) (c : ℕ) (place : List Entry) → PassesOthers (is_right_at s c place)
-others_right s c place = record { ask = λ op want. refl; returned = λ op u. refl; drop = λ op. refl; leave = λ op. refl; pause = λ n. refl; resume = λ n. refl }
+others_right s c place = record { returned = λ op u. refl; drop = λ op. refl; leave = λ op. refl; pause = λ n. refl; resume = λ n. refl }
 
 -- it stays so as the list grows
 right_later : (s : Settings) (c : ℕ) (L M : List Entry) (x : Letter) → is_right_at s c L x ≡ true → is_right_at s c (L ++ M) x ≡ true
@@ -125,7 +125,7 @@ module _ (s : Settings) (c : ℕ) (place : List Entry) (p : ClientState) (m : Ma
       new_known false j = each_last (RowKnown s c (place ++ m.entry ∷ [])) p.rows (new_row s p x) j
 
   letters_right : are_right_at s c (place ++ m.entry ∷ []) (client_letters s p m.entry.at m.entry.what) ≡ true
-  letters_right = letters_pass s (is_right_at s c (place ++ m.entry ∷ [])) (others_right s c (place ++ m.entry ∷ [])) p Right (λ r kind holder k e. k kind holder e) m.entry.at m.entry.what (each_imply (RowKnown s c place) Right p.rows old_right h.rows) new_right
+  letters_right = letters_pass s (is_right_at s c (place ++ m.entry ∷ [])) (others_right s c (place ++ m.entry ∷ [])) p Right (λ r kind holder k e. k kind holder e) m.entry.at m.entry.what (each_imply (RowKnown s c place) Right p.rows old_right h.rows) new_right (λ x e makes. refl)
 
 -- The walk.
 gives_right : (s : Settings) (c : ℕ) (place : List Entry) (p : ClientState) (ms : List Marked) → At s c place p → are_right_at s c (place ++ entries ms) (client_gives s p ms) ≡ true

@@ -1,5 +1,5 @@
--- What holds of a Forward for each row of a client holds of each letter that the client gives at an entry, where it holds of
--- all letters of other sorts.
+-- What holds of a Forward for each row of a client, and of the Ask of each message, holds of each letter that the client gives
+-- at an entry, where it holds of all letters of other sorts.
 use Rattle.std.proofs.Common.{◌≡◌, ℕ, Bool, true, false, ◌==◌, ◌&&◌, List, [], ◌∷◌, ◌++◌, refl, ap, ◌∙◌}
 use Rattle.std.specs.Prelude.{Option, Some, None, find, flat_map}
 use Rattle.std.specs.List.{list_all}
@@ -15,7 +15,6 @@ use Rattle.lload_names.specs.declared.names.OpKind.TheVariants.{Bind}
 use Rattle.lload_names.specs.declared.names.OpName.{OpName}
 use Rattle.lload_names.specs.declared.names.PartName.TheVariants.{Up as Connection}
 use Rattle.lload_names.specs.declared.names.Posted.{Posted}
-use Rattle.lload_names.specs.declared.names.Want.{Want}
 use Rattle.lload_names.specs.declared.names.What.{What}
 use Rattle.lload_names.specs.declared.names.What.TheVariants as what
 use Rattle.lload_spec.specs.Answers.{wants_identity}
@@ -26,15 +25,14 @@ use Rattle.lload_spec.specs.Operations.{is_request_of}
 use Rattle.lload_spec.specs.Pauses.{pause_letters, resume_letters, pauses_behind}
 use Rattle.lload_spec.specs.Settings.{Settings}
 use Rattle.lload_spec.proofs.Growth.{both}
-use Rattle.part_spec.specs.ClientState.{ClientState, ClientRow, Held, check_at, is_pinned, new_row, name_of, row_named, abandons, is_bind_row, regular_connections}
+use Rattle.part_spec.specs.ClientState.{ClientState, ClientRow, Held, check_at, is_pinned, new_row, name_of, row_named, abandons, is_bind_row, regular_connections, want_for}
 use Rattle.part_spec.specs.ClientTurn.{drops, drop_of, leave, endings, forward, asks, pause_at, letters_for, resumes}
 use Rattle.part_spec.specs.Gives.{client_letters, message_letters}
 use Rattle.client_answer_laws.proofs.Asks.{going_makes}
 use Rattle.client_answer_laws.proofs.Each.{Each, each_found}
 
--- a test that passes all letters of a client but Forwards
+-- a test that passes all letters of a client but Forwards and Asks
 pub record PassesOthers (q : Letter → Bool) : Type 0 where
-  pub ask : (op : OpName) (want : Want) → q (Ask op want) ≡ true
   pub returned : (op : OpName) (u : ℕ) → q (Returned op u) ≡ true
   pub drop : (op : OpName) → q (Drop op) ≡ true
   pub leave : (op : OpName) → q (Leave op) ≡ true
@@ -108,26 +106,30 @@ module _ (s : Settings) (q : Letter → Bool) (other : PassesOthers q) where
         by None e = refl
         by (Some kind) e = one _ (told r kind holder h e)
 
-    asks_pass : (at : ℕ) (m : Message) → all_pass (asks s p at m) ≡ true
-    asks_pass at m = one _ (other.ask _ _)
+    -- the Ask of a message would pass
+    abbrev pub AskPasses : ℕ → Message → Type 0
+    AskPasses at m = q (Ask (name_of p (new_row s p m)) (want_for s p at m)) ≡ true
 
-    goes_pass : (at : ℕ) (m : Message) → R (new_row s p m) → all_pass (elim (is_request_of Bind m) [ true ↦ drops p ++ elim (is_pinned s p m) [ true ↦ elim p.hold [ None ↦ [] | Some h ↦ forward s p (new_row s p m) h.holder h.connection ] | false ↦ asks s p at m ] | false ↦ asks s p at m ]) ≡ true
-    goes_pass at m h = by (is_request_of Bind m) (is_pinned s p m) p.hold
+    asks_pass : (at : ℕ) (m : Message) → AskPasses at m → all_pass (asks s p at m) ≡ true
+    asks_pass at m h = one _ h
+
+    goes_pass : (at : ℕ) (m : Message) → R (new_row s p m) → AskPasses at m → all_pass (elim (is_request_of Bind m) [ true ↦ drops p ++ elim (is_pinned s p m) [ true ↦ elim p.hold [ None ↦ [] | Some h ↦ forward s p (new_row s p m) h.holder h.connection ] | false ↦ asks s p at m ] | false ↦ asks s p at m ]) ≡ true
+    goes_pass at m h k = by (is_request_of Bind m) (is_pinned s p m) p.hold
       where
         by : (b i : Bool) (o : Option Held) → all_pass (elim b [ true ↦ drops p ++ elim i [ true ↦ elim o [ None ↦ [] | Some x ↦ forward s p (new_row s p m) x.holder x.connection ] | false ↦ asks s p at m ] | false ↦ asks s p at m ]) ≡ true
-        by false i o = asks_pass at m
-        by true false o = pass_both (drops p) (asks s p at m) (drops_pass p) (asks_pass at m)
+        by false i o = asks_pass at m k
+        by true false o = pass_both (drops p) (asks s p at m) (drops_pass p) (asks_pass at m k)
         by true true None = pass_both (drops p) [] (drops_pass p) refl
         by true true (Some x) = pass_both (drops p) (forward s p (new_row s p m) x.holder x.connection) (drops_pass p) (forward_passes (new_row s p m) x.holder x.connection h)
 
-    message_passes : (at : ℕ) (m : Message) → (makes_operation m ≡ true → R (new_row s p m)) → (k : Check) → check_at s p m ≡ k → all_pass (message_letters s p at m k) ≡ true
-    message_passes at m new (Ends why) e = where_passes (makes_operation m && is_request_of Bind m) (drops p) (drops_pass p)
-    message_passes at m new Unbinds e = refl
-    message_passes at m new (Abandons id) e = found_passes p (find (abandons m) p.rows)
-    message_passes at m new (Refuses which) e = where_passes (is_request_of Bind m) (endings p) (endings_pass p)
-    message_passes at m new (Answers which) e = refl
-    message_passes at m new (Cancels id kind) e = found_passes p (find (λ r. may_be_canceled id (live_request r.request)) p.rows)
-    message_passes at m new GoesOn e = goes_pass at m (new (going_makes s p m (ap lets_go_on e)))
+    message_passes : (at : ℕ) (m : Message) → (makes_operation m ≡ true → R (new_row s p m)) → (makes_operation m ≡ true → AskPasses at m) → (k : Check) → check_at s p m ≡ k → all_pass (message_letters s p at m k) ≡ true
+    message_passes at m new ask (Ends why) e = where_passes (makes_operation m && is_request_of Bind m) (drops p) (drops_pass p)
+    message_passes at m new ask Unbinds e = refl
+    message_passes at m new ask (Abandons id) e = found_passes p (find (abandons m) p.rows)
+    message_passes at m new ask (Refuses which) e = where_passes (is_request_of Bind m) (endings p) (endings_pass p)
+    message_passes at m new ask (Answers which) e = refl
+    message_passes at m new ask (Cancels id kind) e = found_passes p (find (λ r. may_be_canceled id (live_request r.request)) p.rows)
+    message_passes at m new ask GoesOn e = goes_pass at m (new (going_makes s p m (ap lets_go_on e))) (ask (going_makes s p m (ap lets_go_on e)))
 
     chosen_passes : (op : OpName) (a : Answer) → Each R p.rows → all_pass (letters_for s p op (row_named p op) a) ≡ true
     chosen_passes op a h = by (row_named p op) refl a
@@ -139,10 +141,10 @@ module _ (s : Settings) (q : Letter → Bool) (other : PassesOthers q) where
         by None e _ = refl
 
     -- the letters at an entry
-    pub letters_pass : (at : ℕ) (w : What) → Each R p.rows → ((m : Message) → w ≡ what.In m.id m.rest → makes_operation m ≡ true → R (new_row s p m)) → all_pass (client_letters s p at w) ≡ true
-    letters_pass at (what.In id rest) h new = message_passes at (record { id = id; rest = rest }) (new (record { id = id; rest = rest }) refl) (check_at s p (record { id = id; rest = rest })) refl
-    letters_pass at (what.Chosen op a) h new = chosen_passes op a h
-    letters_pass at (what.Gone why) h new = pass_both (endings p) (resumes p) (endings_pass p) (resumes_pass p.number p.pausing.paused)
-    letters_pass at what.Stalled h new = pauses_pass p.number (rising_once (regular_connections p))
-    letters_pass at what.Flowing h new = resumes_pass p.number p.pausing.paused
-    letters_pass at _ h new = refl
+    pub letters_pass : (at : ℕ) (w : What) → Each R p.rows → ((m : Message) → w ≡ what.In m.id m.rest → makes_operation m ≡ true → R (new_row s p m)) → ((m : Message) → w ≡ what.In m.id m.rest → makes_operation m ≡ true → AskPasses at m) → all_pass (client_letters s p at w) ≡ true
+    letters_pass at (what.In id rest) h new ask = message_passes at (record { id = id; rest = rest }) (new (record { id = id; rest = rest }) refl) (ask (record { id = id; rest = rest }) refl) (check_at s p (record { id = id; rest = rest })) refl
+    letters_pass at (what.Chosen op a) h new ask = chosen_passes op a h
+    letters_pass at (what.Gone why) h new ask = pass_both (endings p) (resumes p) (endings_pass p) (resumes_pass p.number p.pausing.paused)
+    letters_pass at what.Stalled h new ask = pauses_pass p.number (rising_once (regular_connections p))
+    letters_pass at what.Flowing h new ask = resumes_pass p.number p.pausing.paused
+    letters_pass at _ h new ask = refl

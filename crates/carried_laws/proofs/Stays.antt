@@ -27,11 +27,12 @@ pub record Kept (c : ℕ) (list : List Entry) (op : OpName) (o : Operation) : Ty
   pub later : Operation
   pub found : operation_in c list op ≡ Some later
   pub name : later.name ≡ o.name
+  pub at : later.at ≡ o.at
   pub request : later.request ≡ o.request
   pub before : later.before ≡ o.before
 
 pub operation_kept : (c : ℕ) (L M : List Entry) (op : OpName) (o : Operation) → operation_in c L op ≡ Some o → Kept c (L ++ M) op o
-operation_kept c L [] op o h = record { later = o; found = ap (λ l. operation_in c l op) (append-nil L) ∙ h; name = refl; request = refl; before = refl }
+operation_kept c L [] op o h = record { later = o; found = ap (λ l. operation_in c l op) (append-nil L) ∙ h; name = refl; at = refl; request = refl; before = refl }
 operation_kept c L (e ∷ M) op o h =
     let k : Kept c ((L ++ e ∷ []) ++ M) op (later_operation e o) = operation_kept c (L ++ e ∷ []) M op (later_operation e o) (operation_stays c L e op o h) in
-    record { later = k.later; found = ap (λ l. operation_in c l op) (sym (append_assoc L (e ∷ []) M)) ∙ k.found; name = k.name; request = k.request; before = k.before }
+    record { later = k.later; found = ap (λ l. operation_in c l op) (sym (append_assoc L (e ∷ []) M)) ∙ k.found; name = k.name; at = k.at; request = k.request; before = k.before }

@@ -19,7 +19,7 @@ use Rattle.lload_spec.specs.Lists.{where_there}
 use Rattle.lload_spec.specs.Settings.{Settings}
 use Rattle.lload_spec.proofs.Growth.{left, right}
 use Rattle.part_laws.specs.Turns.{Event, made}
-use Rattle.part_spec.specs.ClientState.{ClientState, step_client, client_of, facts_of, check_at, row_named}
+use Rattle.part_spec.specs.ClientState.{ClientState, step_client, client_of, facts_of, check_at, is_present, row_named}
 use Rattle.part_spec.specs.ClientTurn.{whats_by, whats_for, noticed, refused}
 use Rattle.part_spec.specs.Fit.{ledger_behind as behind}
 use Rattle.part_spec.specs.Inputs.{entries_of}
@@ -38,20 +38,17 @@ abbrev pub Ins : (List Marked → Type 0) → List Marked → List Marked → Ty
 Ins P before [] = Unit {0}
 Ins P before (m ∷ ms) = (is_some (in_message m.entry.what) ≡ true → P before) × Ins P (before ++ m ∷ []) ms
 
-ins_both : (P : List Marked → Type 0) (before L M : List Marked) → Ins P before L → Ins P (before ++ L) M → Ins P before (L ++ M)
+pub ins_both : (P : List Marked → Type 0) (before L M : List Marked) → Ins P before L → Ins P (before ++ L) M → Ins P before (L ++ M)
 ins_both P before [] M h k = subst (λ b. Ins P b M) (append-nil before) k
 ins_both P before (m ∷ L) M h k = (h.0, ins_both P (before ++ m ∷ []) L M h.1 (subst (λ b. Ins P b M) (sym (append_assoc before (m ∷ []) L)) k))
 
+-- by the split
+pub ins_at : (P : List Marked → Type 0) (b before : List Marked) (m : Marked) (ms : List Marked) → Ins P b (before ++ m ∷ ms) → is_some (in_message m.entry.what) ≡ true → P (b ++ before)
+ins_at P b [] m ms h k = subst P (sym (append-nil b)) (h.0 k)
+ins_at P b (x ∷ before) m ms h k = subst P (append_assoc b (x ∷ []) before) (ins_at P (b ++ x ∷ []) before m ms h.1 k)
+
 abbrev is_quiet : What → Bool
 is_quiet w = is_none (in_message w)
-
-quiet_ins : (P : List Marked → Type 0) (u at : ℕ) (ws : List What) (before : List Marked) → list_all is_quiet ws ≡ true → Ins P before (map (λ x. record { entry = x; mark = None }) (entries_of (Client u) at ws))
-quiet_ins P u at [] before h = tt
-quiet_ins P u at (w ∷ ws) before h = ((λ k. none (in_message w) (left (is_quiet w) _ h) k), quiet_ins P u at ws (before ++ record { entry = record { part = Client u; at = at; what = w }; mark = None } ∷ []) (right (is_quiet w) _ h))
-  where
-    none : (o : Option Message) → is_none o ≡ true → is_some o ≡ true → P before
-    none None i j = absurd (let bad : false ≡ true = j in cc)
-    none (Some m) i j = absurd (let bad : false ≡ true = i in cc)
 
 check_quiet : (m : Message) (k : Check) → list_all is_quiet (whats_by m k) ≡ true
 check_quiet m (Ends why) = refl
@@ -62,28 +59,40 @@ check_quiet m (Answers which) = canceled_all is_quiet (λ id rest. refl) m.id (k
 check_quiet m (Cancels id kind) = canceled_all is_quiet (λ i rest. refl) m.id (kind_of m.rest) S1
 check_quiet m GoesOn = refl
 
-module _ (s : Settings) (p : ClientState) (P : List Marked → Type 0) (before : List Marked) (here : P before) where
-  turn : (at : ℕ) (mark : Option Taken) (w : What) (ws : List What) → list_all is_quiet ws ≡ true → Ins P before (client_turn_of p.number at mark (w ∷ ws))
-  turn at mark w ws h = (λ k. here, quiet_ins P p.number at ws (before ++ record { entry = record { part = Client p.number; at = at; what = w }; mark = mark } ∷ []) h)
+-- a turn: a message comes only as its first entry, and only while the client is there
+module _ (s : Settings) (p : ClientState) (P : List Marked → Type 0) (before : List Marked) (here : is_present p ≡ true → P before) where
+  none_in : (w : What) → is_quiet w ≡ true → is_some (in_message w) ≡ true → (b : List Marked) → P b
+  none_in w h k = none (in_message w) h k
+    where
+      none : (o : Option Message) → is_none o ≡ true → is_some o ≡ true → (b : List Marked) → P b
+      none None i j = absurd (let bad : false ≡ true = j in cc)
+      none (Some m) i j = absurd (let bad : false ≡ true = i in cc)
 
-  turn_of : (at : ℕ) (mark : Option Taken) (ws : List What) → list_all is_quiet ws ≡ true → Ins P before (client_turn_of p.number at mark ws)
-  turn_of at mark [] h = tt
-  turn_of at mark (w ∷ ws) h = turn at mark w ws (right (is_quiet w) _ h)
+  quiet_ins : (at : ℕ) (ws : List What) (b : List Marked) → list_all is_quiet ws ≡ true → Ins P b (map (λ x. record { entry = x; mark = None }) (entries_of (Client p.number) at ws))
+  quiet_ins at [] b h = tt
+  quiet_ins at (w ∷ ws) b h = ((λ k. none_in w (left (is_quiet w) _ h) k b), quiet_ins at ws (b ++ record { entry = record { part = Client p.number; at = at; what = w }; mark = None } ∷ []) (right (is_quiet w) _ h))
 
-  ins_cases : Cases s p (Ins P before)
+  turn : (at : ℕ) (mark : Option Taken) (w : What) (ws : List What) → (is_some (in_message w) ≡ true → P before) → list_all is_quiet ws ≡ true → Ins P before (client_turn_of p.number at mark (w ∷ ws))
+  turn at mark w ws f h = (f, quiet_ins at ws (before ++ record { entry = record { part = Client p.number; at = at; what = w }; mark = mark } ∷ []) h)
+
+  quiet : (at : ℕ) (mark : Option Taken) (ws : List What) → list_all is_quiet ws ≡ true → Ins P before (client_turn_of p.number at mark ws)
+  quiet at mark [] h = tt
+  quiet at mark (w ∷ ws) h = turn at mark w ws (λ k. none_in w (left (is_quiet w) _ h) k before) (right (is_quiet w) _ h)
+
+  pub ins_cases : Cases s p (Ins P before)
   ins_cases =
       record {
         none = tt;
-        arrives = λ at fresh. turn at None what.Arrived [] refl;
-        checked = λ at m e h. turn at None (what.In m.id m.rest) (whats_by m (check_at s p m)) (check_quiet m (check_at s p m));
-        chosen = λ at sender op a h. turn at (taken sender (Choice op a)) (what.Chosen op a) (whats_for (row_named p op) a) (choice_all is_quiet (λ id rest. refl) (row_named p op) a);
-        answered = λ at sender op rest is_last who r e h. turn at (taken sender (Reply op rest is_last who)) (what.Out r.request.id rest) [] refl;
-        failed = λ at sender op which r e h. turn_of at (taken sender (Failed op which)) (refused r.request which) (refused_all is_quiet (λ id rest. refl) r.request which);
-        late = λ at mark op e h about. turn at mark (what.Late op) [] refl;
-        breaks = λ at why there e n. turn_of at None (noticed why) refl;
-        severed = λ at why h e. turn at None (what.Gone why) [] refl;
-        stalls = λ at h. turn at None what.Stalled [] refl;
-        flows = λ at h. turn at None what.Flowing [] refl;
+        arrives = λ at fresh. quiet at None (what.Arrived ∷ []) refl;
+        checked = λ at m e h. turn at None (what.In m.id m.rest) (whats_by m (check_at s p m)) (λ k. here e) (check_quiet m (check_at s p m));
+        chosen = λ at sender op a h. quiet at (taken sender (Choice op a)) (what.Chosen op a ∷ whats_for (row_named p op) a) (choice_all is_quiet (λ id rest. refl) (row_named p op) a);
+        answered = λ at sender op rest is_last who r e h. quiet at (taken sender (Reply op rest is_last who)) (what.Out r.request.id rest ∷ []) refl;
+        failed = λ at sender op which r e h. quiet at (taken sender (Failed op which)) (refused r.request which) (refused_all is_quiet (λ id rest. refl) r.request which);
+        late = λ at mark op e h about. quiet at mark (what.Late op ∷ []) refl;
+        breaks = λ at why there e n. quiet at None (noticed why) refl;
+        severed = λ at why h e. quiet at None (what.Gone why ∷ []) refl;
+        stalls = λ at h. quiet at None (what.Stalled ∷ []) refl;
+        flows = λ at h. quiet at None (what.Flowing ∷ []) refl;
       }
 
 -- What the state says where a turn begins.
@@ -98,7 +107,7 @@ kept_more : (s : Settings) (F : Family) (c : ℕ) (before : List Marked) (p : Cl
 kept_more s F c before p x keeps h =
     record {
       knows = knows_more s F c before p x keeps h.knows;
-      ins = ins_both (FactsAt s F c) [] before (made (client_event s) p x) h.ins (event_case s p (Ins (FactsAt s F c) before) (ins_cases s p (FactsAt s F c) before (facts_by s F c before p keeps h.knows)) x);
+      ins = ins_both (FactsAt s F c) [] before (made (client_event s) p x) h.ins (event_case s p (Ins (FactsAt s F c) before) (ins_cases s p (FactsAt s F c) before (λ present. facts_by s F c before p keeps h.knows)) x);
     }
 
 list_ins : (s : Settings) (F : Family) (c : ℕ) (xs : List Event) → Ins (FactsAt s F c) [] (client_list s c xs)
@@ -120,5 +129,4 @@ client_known s F c list xs same entries_are told = known_from s F c [] list (sym
 
 -- by the split
 pub known_at : (s : Settings) (F : Family) (c : ℕ) (b before : List Marked) (m : Marked) (ms : List Marked) → Known s F c b (before ++ m ∷ ms) → is_some (in_message m.entry.what) ≡ true → facts_of (client_of s c (b ++ before)) ≡ client_facts s F c (entries (b ++ before))
-known_at s F c b [] m ms h k = subst (λ l. facts_of (client_of s c l) ≡ client_facts s F c (entries l)) (sym (append-nil b)) (h.0 k)
-known_at s F c b (x ∷ before) m ms h k = subst (λ l. facts_of (client_of s c l) ≡ client_facts s F c (entries l)) (append_assoc b (x ∷ []) before) (known_at s F c (b ++ x ∷ []) before m ms h.1 k)
+known_at s F c b before m ms h k = ins_at (λ l. facts_of (client_of s c l) ≡ client_facts s F c (entries l)) b before m ms h k

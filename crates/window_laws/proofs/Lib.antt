@@ -1,0 +1,9 @@
+pub mod Counts
+pub mod Binds
+pub mod Ended
+pub mod Windows
+pub mod Entries
+pub mod Chosen
+pub mod Turns
+pub mod Standing
+pub mod Asks
