@@ -28,7 +28,8 @@ use Rattle.part_spec.specs.Marked.{Marked, entries}
 use Rattle.client_laws.proofs.ClientClauses.{Says, says_more, nothing_kept}
 use Rattle.client_laws.proofs.ClientTurns.{count_more}
 use Rattle.client_laws.proofs.ClientGives.{in_state}
-use Rattle.client_answer_laws.proofs.Each.{Each, each_found, each_imply}
+use Rattle.client_answer_laws.proofs.Asks.{going_makes}
+use Rattle.client_answer_laws.proofs.Each.{Each, each_found}
 use Rattle.client_answer_laws.proofs.Known.{within_there}
 use Rattle.client_answer_laws.proofs.Waits.{IsOf, RowKnown, rows_known}
 use Rattle.carried_laws.specs.Laws.{says_rightly}
@@ -125,7 +126,7 @@ module _ (s : Settings) (c : ℕ) (place : List Entry) (p : ClientState) (m : Ma
       new_known false j = each_last (RowKnown s c (place ++ m.entry ∷ [])) p.rows (new_row s p x) j
 
   letters_right : are_right_at s c (place ++ m.entry ∷ []) (client_letters s p m.entry.at m.entry.what) ≡ true
-  letters_right = letters_pass s (is_right_at s c (place ++ m.entry ∷ [])) (others_right s c (place ++ m.entry ∷ [])) p Right (λ r kind holder k e. k kind holder e) m.entry.at m.entry.what (each_imply (RowKnown s c place) Right p.rows old_right h.rows) new_right (λ x e makes. refl)
+  letters_right = letters_pass s (is_right_at s c (place ++ m.entry ∷ [])) (others_right s c (place ++ m.entry ∷ [])) p Right (λ r kind holder k e. k kind holder e) m.entry.at m.entry.what (λ op a r e k. old_right r (each_found (RowKnown s c place) (λ x. p.number == op.client && x.k == op.k) p.rows r k h.rows)) (λ x e goes. new_right x e (going_makes s p x goes)) (λ x e asks. refl)
 
 -- The walk.
 gives_right : (s : Settings) (c : ℕ) (place : List Entry) (p : ClientState) (ms : List Marked) → At s c place p → are_right_at s c (place ++ entries ms) (client_gives s p ms) ≡ true

@@ -1,6 +1,6 @@
 -- What holds of a Forward for each row of a client, and of the Ask of each message, holds of each letter that the client gives
 -- at an entry, where it holds of all letters of other sorts.
-use Rattle.std.proofs.Common.{◌≡◌, ℕ, Bool, true, false, ◌==◌, ◌&&◌, List, [], ◌∷◌, ◌++◌, refl, ap, ◌∙◌}
+use Rattle.std.proofs.Common.{◌≡◌, ℕ, Bool, true, false, ◌&&◌, not, List, [], ◌∷◌, ◌++◌, refl, ap, ◌∙◌}
 use Rattle.std.specs.Prelude.{Option, Some, None, find, flat_map}
 use Rattle.std.specs.List.{list_all}
 use Rattle.std.proofs.lemmas.List.Folds.{list_all-append}
@@ -19,17 +19,15 @@ use Rattle.lload_names.specs.declared.names.What.{What}
 use Rattle.lload_names.specs.declared.names.What.TheVariants as what
 use Rattle.lload_spec.specs.Answers.{wants_identity}
 use Rattle.lload_spec.specs.Entries.{makes_operation}
-use Rattle.lload_spec.specs.FirstCheck.{Check, Ends, Unbinds, Abandons, Refuses, Answers, Cancels, GoesOn, lets_go_on, live_request, may_be_canceled}
+use Rattle.lload_spec.specs.FirstCheck.{Check, Ends, Unbinds, Abandons, Refuses, Answers, Cancels, GoesOn, asks_desk, lets_go_on, live_request, may_be_canceled}
 use Rattle.lload_spec.specs.Lists.{rising_once}
 use Rattle.lload_spec.specs.Operations.{is_request_of}
 use Rattle.lload_spec.specs.Pauses.{pause_letters, resume_letters, pauses_behind}
 use Rattle.lload_spec.specs.Settings.{Settings}
 use Rattle.lload_spec.proofs.Growth.{both}
-use Rattle.part_spec.specs.ClientState.{ClientState, ClientRow, Held, check_at, is_pinned, new_row, name_of, row_named, abandons, is_bind_row, regular_connections, want_for}
+use Rattle.part_spec.specs.ClientState.{ClientState, ClientRow, Held, check_at, facts_of, is_pinned, new_row, name_of, row_named, abandons, is_bind_row, regular_connections, want_for}
 use Rattle.part_spec.specs.ClientTurn.{drops, drop_of, leave, endings, forward, asks, pause_at, letters_for, resumes}
 use Rattle.part_spec.specs.Gives.{client_letters, message_letters}
-use Rattle.client_answer_laws.proofs.Asks.{going_makes}
-use Rattle.client_answer_laws.proofs.Each.{Each, each_found}
 
 -- a test that passes all letters of a client but Forwards and Asks
 pub record PassesOthers (q : Letter → Bool) : Type 0 where
@@ -113,37 +111,37 @@ module _ (s : Settings) (q : Letter → Bool) (other : PassesOthers q) where
     asks_pass : (at : ℕ) (m : Message) → AskPasses at m → all_pass (asks s p at m) ≡ true
     asks_pass at m h = one _ h
 
-    goes_pass : (at : ℕ) (m : Message) → R (new_row s p m) → AskPasses at m → all_pass (elim (is_request_of Bind m) [ true ↦ drops p ++ elim (is_pinned s p m) [ true ↦ elim p.hold [ None ↦ [] | Some h ↦ forward s p (new_row s p m) h.holder h.connection ] | false ↦ asks s p at m ] | false ↦ asks s p at m ]) ≡ true
-    goes_pass at m h k = by (is_request_of Bind m) (is_pinned s p m) p.hold
+    goes_pass : (at : ℕ) (m : Message) → R (new_row s p m) → (is_pinned s p m ≡ false → AskPasses at m) → all_pass (elim (is_request_of Bind m) [ true ↦ drops p ++ elim (is_pinned s p m) [ true ↦ elim p.hold [ None ↦ [] | Some h ↦ forward s p (new_row s p m) h.holder h.connection ] | false ↦ asks s p at m ] | false ↦ asks s p at m ]) ≡ true
+    goes_pass at m h k = by (is_request_of Bind m) (is_pinned s p m) p.hold (λ e. k (ap (λ b. b && (facts_of p).in_exchange && lets_go_on (check_at s p m)) e)) k
       where
-        by : (b i : Bool) (o : Option Held) → all_pass (elim b [ true ↦ drops p ++ elim i [ true ↦ elim o [ None ↦ [] | Some x ↦ forward s p (new_row s p m) x.holder x.connection ] | false ↦ asks s p at m ] | false ↦ asks s p at m ]) ≡ true
-        by false i o = asks_pass at m k
-        by true false o = pass_both (drops p) (asks s p at m) (drops_pass p) (asks_pass at m k)
-        by true true None = pass_both (drops p) [] (drops_pass p) refl
-        by true true (Some x) = pass_both (drops p) (forward s p (new_row s p m) x.holder x.connection) (drops_pass p) (forward_passes (new_row s p m) x.holder x.connection h)
+        by : (b i : Bool) (o : Option Held) → (b ≡ false → AskPasses at m) → (i ≡ false → AskPasses at m) → all_pass (elim b [ true ↦ drops p ++ elim i [ true ↦ elim o [ None ↦ [] | Some x ↦ forward s p (new_row s p m) x.holder x.connection ] | false ↦ asks s p at m ] | false ↦ asks s p at m ]) ≡ true
+        by false i o f g = asks_pass at m (f refl)
+        by true false o f g = pass_both (drops p) (asks s p at m) (drops_pass p) (asks_pass at m (g refl))
+        by true true None f g = pass_both (drops p) [] (drops_pass p) refl
+        by true true (Some x) f g = pass_both (drops p) (forward s p (new_row s p m) x.holder x.connection) (drops_pass p) (forward_passes (new_row s p m) x.holder x.connection h)
 
-    message_passes : (at : ℕ) (m : Message) → (makes_operation m ≡ true → R (new_row s p m)) → (makes_operation m ≡ true → AskPasses at m) → (k : Check) → check_at s p m ≡ k → all_pass (message_letters s p at m k) ≡ true
+    message_passes : (at : ℕ) (m : Message) → (lets_go_on (check_at s p m) ≡ true → R (new_row s p m)) → (asks_desk s (facts_of p) m ≡ true → AskPasses at m) → (k : Check) → check_at s p m ≡ k → all_pass (message_letters s p at m k) ≡ true
     message_passes at m new ask (Ends why) e = where_passes (makes_operation m && is_request_of Bind m) (drops p) (drops_pass p)
     message_passes at m new ask Unbinds e = refl
     message_passes at m new ask (Abandons id) e = found_passes p (find (abandons m) p.rows)
     message_passes at m new ask (Refuses which) e = where_passes (is_request_of Bind m) (endings p) (endings_pass p)
     message_passes at m new ask (Answers which) e = refl
     message_passes at m new ask (Cancels id kind) e = found_passes p (find (λ r. may_be_canceled id (live_request r.request)) p.rows)
-    message_passes at m new ask GoesOn e = goes_pass at m (new (going_makes s p m (ap lets_go_on e))) (ask (going_makes s p m (ap lets_go_on e)))
+    message_passes at m new ask GoesOn e = goes_pass at m (new (ap lets_go_on e)) (λ unpinned. ask (both (lets_go_on (check_at s p m)) _ (ap lets_go_on e) (ap not unpinned)))
 
-    chosen_passes : (op : OpName) (a : Answer) → Each R p.rows → all_pass (letters_for s p op (row_named p op) a) ≡ true
+    chosen_passes : (op : OpName) (a : Answer) → ((r : ClientRow) → row_named p op ≡ Some r → R r) → all_pass (letters_for s p op (row_named p op) a) ≡ true
     chosen_passes op a h = by (row_named p op) refl a
       where
         by : (o : Option ClientRow) → row_named p op ≡ o → (b : Answer) → all_pass (letters_for s p op o b) ≡ true
-        by (Some r) e (Go u b) = pass_both (forward s p r op u) (pause_at p r u) (forward_passes r op u (each_found R (λ x. p.number == op.client && x.k == op.k) p.rows r e h)) (pause_passes p r u)
+        by (Some r) e (Go u b) = pass_both (forward s p r op u) (pause_at p r u) (forward_passes r op u (h r e)) (pause_passes p r u)
         by None e (Go u b) = one _ (other.returned op u)
         by (Some r) e _ = refl
         by None e _ = refl
 
-    -- the letters at an entry
-    pub letters_pass : (at : ℕ) (w : What) → Each R p.rows → ((m : Message) → w ≡ what.In m.id m.rest → makes_operation m ≡ true → R (new_row s p m)) → ((m : Message) → w ≡ what.In m.id m.rest → makes_operation m ≡ true → AskPasses at m) → all_pass (client_letters s p at w) ≡ true
+    -- the letters at an entry: of the row that a choice is for, and of a message that goes on
+    pub letters_pass : (at : ℕ) (w : What) → ((op : OpName) (a : Answer) (r : ClientRow) → w ≡ what.Chosen op a → row_named p op ≡ Some r → R r) → ((m : Message) → w ≡ what.In m.id m.rest → lets_go_on (check_at s p m) ≡ true → R (new_row s p m)) → ((m : Message) → w ≡ what.In m.id m.rest → asks_desk s (facts_of p) m ≡ true → AskPasses at m) → all_pass (client_letters s p at w) ≡ true
     letters_pass at (what.In id rest) h new ask = message_passes at (record { id = id; rest = rest }) (new (record { id = id; rest = rest }) refl) (ask (record { id = id; rest = rest }) refl) (check_at s p (record { id = id; rest = rest })) refl
-    letters_pass at (what.Chosen op a) h new ask = chosen_passes op a h
+    letters_pass at (what.Chosen op a) h new ask = chosen_passes op a (λ r e. h op a r refl e)
     letters_pass at (what.Gone why) h new ask = pass_both (endings p) (resumes p) (endings_pass p) (resumes_pass p.number p.pausing.paused)
     letters_pass at what.Stalled h new ask = pauses_pass p.number (rising_once (regular_connections p))
     letters_pass at what.Flowing h new ask = resumes_pass p.number p.pausing.paused

@@ -15,9 +15,11 @@ pub fn a_client_is_bound_as_its_list_says()
 }
 
 /// So the desk is asked for each request for what its client is bound to where the request came: for a Bind a free bind
-/// connection, else a regular one as the client's choices and writes bind it.
+/// connection, else a regular one as the client's choices and writes bind it. And it is asked only for a request that its
+/// first check lets go on, and that doesn't go on in an exchange.
 pub fn each_request_asks_for_what_binds_its_client()
     ensures { AsksRightly }
 {
     part_spec::a_fit_list_begins_with_all_of_it();
+    identity_laws::a_client_is_who_the_family_says();
 }
