@@ -91,7 +91,7 @@ module _ (s : Settings) (F : Family) (marked : PartName → List Marked) (h : Jo
 
   -- a Sent has its choice
   module _ (whole : IsWhole F) where
-    chosen_so : (op : OpName) (u : ℕ) (kind : OpKind) → Cause op.client op u kind (F.client op.client) (marked (Client op.client)) → passes (λ o. is_chosen_for F o u || is_pinned_to F o u) (operation F op) ≡ true
+    pub chosen_so : (op : OpName) (u : ℕ) (kind : OpKind) → Cause op.client op u kind (F.client op.client) (marked (Client op.client)) → passes (λ o. is_chosen_for F o u || is_pinned_to F o u) (operation F op) ≡ true
     chosen_so op u kind x = ap (passes (λ o. is_chosen_for F o u || is_pinned_to F o u)) x.found ∙ by x.way
       where
         named : op ≡ x.operation.name
