@@ -1,7 +1,8 @@
 -- What is proved of every run of the parts, as statements.
-use Rattle.std.specs.Prelude.{◌≡◌, ℕ, true, List, [], ◌∷◌, ◌++◌, IsTrue, is_some}
+use Rattle.std.specs.Prelude.{◌≡◌, ℕ, true, false, List, [], ◌∷◌, ◌++◌, IsTrue, is_some}
 use Rattle.lload_names.specs.declared.names.PartName.TheVariants.{Client, Up as Connection}
 use Rattle.lload_names.specs.declared.names.ConnKind.TheVariants.{Bind as BindKind}
+use Rattle.lload_spec.specs.Binding.{choices, standing_by}
 use Rattle.lload_spec.specs.CausedUp.{each_bind_expiry_told}
 use Rattle.lload_spec.specs.Entries.{in_message}
 use Rattle.lload_spec.specs.FirstCheck.{client_facts}
@@ -16,10 +17,12 @@ use Rattle.link_laws.specs.Moves.{end_rightly}
 use Rattle.promise_laws.specs.OneList.{Shared, OfOneList}
 use Rattle.joined_laws.specs.Joined.{Joined, OfSeveralLists}
 use Rattle.settled_laws.specs.Laws.{OfRest, Rested}
-use Rattle.part_spec.specs.ClientState.{client_of, facts_of}
+use Rattle.part_spec.specs.ClientState.{client_of, facts_of, standing_of}
 use Rattle.part_spec.specs.Marked.{Marked, entries}
 use Rattle.carried_laws.specs.Laws.{Played}
 use Rattle.caused_laws.specs.Laws.{BindSaid, OfChecks}
+use Rattle.sent_laws.specs.Laws.{OfPlaces}
+use Rattle.window_laws.specs.Laws.{OfAsks}
 
 -- the family of the journal of a run
 abbrev pub family_of_run : Settings → List PartMove → Family
@@ -122,3 +125,19 @@ RunsSayBinds =
 abbrev pub RunsHoldAlone : Type 0
 RunsHoldAlone =
     (s : Settings) (ms : List PartMove) → IsTrue (end_rightly ms) → IsTrue (each_holder_alone s (family_of_run s ms))
+
+-- what binds a client that isn't gone is by its state what it is by its list
+abbrev pub RunsBindClients : Type 0
+RunsBindClients =
+    (s : Settings) (ms : List PartMove) → IsTrue (end_rightly ms)
+    → (c : ℕ) → (client_of s c (list_in (world_of s ms) (Client c))).gone ≡ false
+    → standing_of s (client_of s c (list_in (world_of s ms) (Client c)))
+    ≡ standing_by s (choices c ((family_of_run s ms).client c))
+
+-- the desk is asked for what each client is bound to, and only for what its first check lets go on and no exchange takes
+abbrev pub RunsAskRightly : Type 0
+RunsAskRightly = (s : Settings) (ms : List PartMove) → IsTrue (end_rightly ms) → OfAsks s (family_of_run s ms)
+
+-- each request that was sent, or missed, stands where its first check let it go, at a connection of its kind
+abbrev pub RunsGoRightly : Type 0
+RunsGoRightly = (s : Settings) (ms : List PartMove) → IsTrue (end_rightly ms) → OfPlaces s (family_of_run s ms)

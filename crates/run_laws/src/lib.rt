@@ -7,6 +7,7 @@
 
 ghost use Rattle.run_laws.specs.Runs.{RunsAreShared, RunsAreJoined, RunsKeepOneList, RunsKeepSeveralLists, RunsKeepUnanswered, RunsSendOnce, RunsAreRested, RunsHeardAtRest, RunsSendWhereChosen, RunsAnswer, RunsKeepFifo};
 ghost use Rattle.run_laws.specs.Runs.{RunsArePlayed, RunsKnowClients, RunsKeepChecks, RunsKeepIdentity, RunsTellExpiredBinds, RunsSayBinds, RunsHoldAlone};
+ghost use Rattle.run_laws.specs.Runs.{RunsAskRightly, RunsBindClients, RunsGoRightly};
 
 /// In every run each part's list keeps the part's whole share of the promises: each letter was fit where it was taken.
 pub fn parts_keep_their_shares_in_runs()
@@ -132,4 +133,25 @@ pub fn bind_connections_are_known_in_runs()
     caused_laws::an_expired_bind_takes_its_connection_down();
     caused_laws::a_bind_connection_says_what_the_family_says();
     caused_laws::a_bind_connection_has_one_holder_at_a_time();
+}
+
+/// In every run the desk is asked for each request for what its client's choices and writes bind it to where the request came,
+/// as the client's state and its list both say; and it is asked only for a request that its first check lets go on, and that
+/// doesn't go on in an exchange.
+pub fn requests_ask_for_what_binds_their_clients_in_runs()
+    ensures bound { RunsBindClients }
+    ensures asks { RunsAskRightly }
+{
+    parts_are_played_in_runs();
+    window_laws::a_client_is_bound_as_its_list_says();
+    window_laws::each_request_asks_for_what_binds_its_client();
+}
+
+/// In every run each request that was sent upstream, or that its connection missed, is one that its first check let go on, at a
+/// connection of its kind: where its exchange is, or where it was chosen.
+pub fn requests_go_where_their_first_checks_let_them_in_runs()
+    ensures { RunsGoRightly }
+{
+    parts_are_played_in_runs();
+    sent_laws::a_request_is_sent_where_its_first_check_let_it_go();
 }
