@@ -11,6 +11,7 @@ use Rattle.lload_spec.specs.Settings.{Settings, is_of_kind}
 use Rattle.lload_spec.specs.Journal.{Family, family}
 use Rattle.lload_spec.specs.Fifo.{Fifo, each_answered, each_sent_chosen, each_sent_once, each_unanswered}
 use Rattle.lload_spec.specs.OneEach.{each_holder_alone}
+use Rattle.lload_spec.specs.Strict.{each_heard_in_order}
 use Rattle.part_spec.specs.Merge.{PartMove, world_of}
 use Rattle.part_spec.specs.World.{journal_of, list_in}
 use Rattle.link_laws.specs.Moves.{end_rightly}
@@ -141,3 +142,8 @@ RunsAskRightly = (s : Settings) (ms : List PartMove) → IsTrue (end_rightly ms)
 -- each request that was sent, or missed, stands where its first check let it go, at a connection of its kind
 abbrev pub RunsGoRightly : Type 0
 RunsGoRightly = (s : Settings) (ms : List PartMove) → IsTrue (end_rightly ms) → OfPlaces s (family_of_run s ms)
+
+-- the desk hears of each connection that it is up, retired and down in this order, and passes none over
+abbrev pub RunsHearInOrder : Type 0
+RunsHearInOrder =
+    (s : Settings) (ms : List PartMove) → IsTrue (end_rightly ms) → IsTrue (each_heard_in_order (family_of_run s ms))

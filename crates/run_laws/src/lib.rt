@@ -7,7 +7,7 @@
 
 ghost use Rattle.run_laws.specs.Runs.{RunsAreShared, RunsAreJoined, RunsKeepOneList, RunsKeepSeveralLists, RunsKeepUnanswered, RunsSendOnce, RunsAreRested, RunsHeardAtRest, RunsSendWhereChosen, RunsAnswer, RunsKeepFifo};
 ghost use Rattle.run_laws.specs.Runs.{RunsArePlayed, RunsKnowClients, RunsKeepChecks, RunsKeepIdentity, RunsTellExpiredBinds, RunsSayBinds, RunsHoldAlone};
-ghost use Rattle.run_laws.specs.Runs.{RunsAskRightly, RunsBindClients, RunsGoRightly};
+ghost use Rattle.run_laws.specs.Runs.{RunsAskRightly, RunsBindClients, RunsGoRightly, RunsHearInOrder};
 
 /// In every run each part's list keeps the part's whole share of the promises: each letter was fit where it was taken.
 pub fn parts_keep_their_shares_in_runs()
@@ -154,4 +154,13 @@ pub fn requests_go_where_their_first_checks_let_them_in_runs()
 {
     parts_are_played_in_runs();
     sent_laws::a_request_is_sent_where_its_first_check_let_it_go();
+}
+
+/// In every run the desk hears of each connection that it is up, that it retired and that it is down in this order, and passes
+/// none over that stands in the connection's list.
+pub fn the_desk_hears_of_connections_in_order_in_runs()
+    ensures { RunsHearInOrder }
+{
+    parts_are_played_in_runs();
+    news_laws::the_desk_hears_of_each_connection_in_order();
 }

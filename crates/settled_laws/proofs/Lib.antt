@@ -1,2 +1,2 @@
-mod Heard
-mod Rest
+pub mod Heard
+pub mod Rest

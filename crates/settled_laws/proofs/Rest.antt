@@ -41,7 +41,7 @@ use Rattle.settled_laws.proofs.Heard.{IsOfNews, gives_at, taken_heard}
 
 -- What tells a state of a connection, and that an operation was returned, is news.
 
-up_news : (u : ℕ) → IsOfNews (tells_up u)
+pub up_news : (u : ℕ) → IsOfNews (tells_up u)
 up_news u = record { same = λ x y. same y x; news = news }
   where
     same : (y x : Letter) → same_letter x y ≡ true → tells_up u y ≡ true → tells_up u x ≡ true
@@ -53,7 +53,7 @@ up_news u = record { same = λ x y. same y x; news = news }
     news (IsUp v) k = refl
     news _ k = absurd (let bad : false ≡ true = k in cc)
 
-retired_news : (u : ℕ) → IsOfNews (tells_retired u)
+pub retired_news : (u : ℕ) → IsOfNews (tells_retired u)
 retired_news u = record { same = λ x y. same y x; news = news }
   where
     same : (y x : Letter) → same_letter x y ≡ true → tells_retired u y ≡ true → tells_retired u x ≡ true
@@ -65,7 +65,7 @@ retired_news u = record { same = λ x y. same y x; news = news }
     news (IsRetired v) k = refl
     news _ k = absurd (let bad : false ≡ true = k in cc)
 
-down_news : (u : ℕ) → IsOfNews (tells_down u)
+pub down_news : (u : ℕ) → IsOfNews (tells_down u)
 down_news u = record { same = λ x y. same y x; news = news }
   where
     same : (y x : Letter) → same_letter x y ≡ true → tells_down u y ≡ true → tells_down u x ≡ true
