@@ -1,0 +1,14 @@
+-- What the promises say of upstream connections, by what their states say.
+use Rattle.std.specs.Prelude.{List, IsTrue}
+use Rattle.lload_names.specs.declared.names.PartName.{PartName}
+use Rattle.lload_spec.specs.CausedUp.{each_bad_told, each_expired_due}
+use Rattle.lload_spec.specs.Identifiers.{each_id_right}
+use Rattle.lload_spec.specs.Journal.{Family}
+use Rattle.lload_spec.specs.Settings.{Settings}
+use Rattle.part_spec.specs.Marked.{Marked}
+use Rattle.carried_laws.specs.Laws.{Played}
+
+-- each identifier is the right one: that which was freed first, else the next
+abbrev pub IdentifiersAreRight : Type 0
+IdentifiersAreRight =
+    (s : Settings) (F : Family) (marked : PartName → List Marked) → Played s F marked → IsTrue (each_id_right s F)

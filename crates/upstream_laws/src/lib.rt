@@ -1,0 +1,16 @@
+//! What the promises say of upstream connections: their identifiers, expiries, bad messages and ends.
+//!
+//! Each function has an empty body, and its contract is a law of joined lists that turns made.
+#![tactic(auto)]
+
+ghost use Rattle.upstream_laws.specs.Laws.{IdentifiersAreRight};
+
+/// Each operation and each message of the proxy's own gets the right identifier on its connection: an operation that which
+/// was freed first, else the next; an own message the next.
+pub fn identifiers_are_given_in_order()
+    ensures { IdentifiersAreRight }
+{
+    carried_laws::a_forward_says_of_its_operation_what_the_family_says();
+    part_spec::a_fit_list_begins_with_all_of_it();
+    caused_laws::a_bind_connection_says_what_the_family_says();
+}
