@@ -1,3 +1,5 @@
 mod Places
 mod Heads
 mod Ids
+mod Facts
+mod BadMessages

@@ -60,3 +60,15 @@ module _ (s : Settings) (u : ℕ) (none : place_at s u ≡ None) where
 -- what is so of the lists of connections of both kinds, and of the empty list, is so of each connection's
 pub each_connection : (s : Settings) (F : Family) (marked : PartName → List Marked) → Played s F marked → (t : ℕ → List Entry → Bool) → ((u : ℕ) → is_of_kind s Regular u ≡ true → t u (entries (marked (Connection u))) ≡ true) → ((u : ℕ) → is_of_kind s BindKind u ≡ true → t u (entries (marked (Connection u))) ≡ true) → ((u : ℕ) → t u [] ≡ true) → list_all (λ u. t u (F.connection u)) F.connections ≡ true
 each_connection s F marked h t regular bind none = all_always (λ u. t u (F.connection u)) F.connections (λ u. subst (λ l. t u l ≡ true) (h.joined.shared.same_entries (Connection u)) (by_kind s u (regular u) (bind u) (λ e. subst (λ l. t u (entries l) ≡ true) (sym (placeless s u e (h.connections u).events) ∙ (h.connections u).same) (none u))))
+
+-- a bind connection isn't regular
+pub bind_alone : (s : Settings) (u : ℕ) → is_of_kind s BindKind u ≡ true → is_of_kind s Regular u ≡ false
+bind_alone s u h = by (place_at s u) h
+  where
+    sort : (k : ConnKind) → is_kind BindKind k ≡ true → is_kind Regular k ≡ false
+    sort Regular e = absurd (let bad : false ≡ true = e in cc)
+    sort BindKind e = refl
+
+    by : (o : Option Place) → (elim o [ None ↦ false | Some q ↦ is_kind BindKind q.kind ]) ≡ true → (elim o [ None ↦ false | Some q ↦ is_kind Regular q.kind ]) ≡ false
+    by None e = refl
+    by (Some q) e = sort q.kind e

@@ -12,3 +12,8 @@ use Rattle.carried_laws.specs.Laws.{Played}
 abbrev pub IdentifiersAreRight : Type 0
 IdentifiersAreRight =
     (s : Settings) (F : Family) (marked : PartName → List Marked) → Played s F marked → IsTrue (each_id_right s F)
+
+-- each bad message that a connection takes has the end of the connection directly behind it
+abbrev pub BadMessagesAreTold : Type 0
+BadMessagesAreTold =
+    (s : Settings) (F : Family) (marked : PartName → List Marked) → Played s F marked → IsTrue (each_bad_told s F)

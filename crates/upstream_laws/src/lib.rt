@@ -3,7 +3,7 @@
 //! Each function has an empty body, and its contract is a law of joined lists that turns made.
 #![tactic(auto)]
 
-ghost use Rattle.upstream_laws.specs.Laws.{IdentifiersAreRight};
+ghost use Rattle.upstream_laws.specs.Laws.{BadMessagesAreTold, IdentifiersAreRight};
 
 /// Each operation and each message of the proxy's own gets the right identifier on its connection: an operation that which
 /// was freed first, else the next; an own message the next.
@@ -13,4 +13,15 @@ pub fn identifiers_are_given_in_order()
     carried_laws::a_forward_says_of_its_operation_what_the_family_says();
     part_spec::a_fit_list_begins_with_all_of_it();
     caused_laws::a_bind_connection_says_what_the_family_says();
+}
+
+/// Each bad message that comes while its connection takes messages takes it down, in the very next entry: by the list alone
+/// a message is bad where it can't answer what is open there.
+pub fn bad_messages_take_their_connection_down()
+    ensures { BadMessagesAreTold }
+{
+    carried_laws::a_forward_says_of_its_operation_what_the_family_says();
+    part_spec::a_fit_list_begins_with_all_of_it();
+    caused_laws::a_bind_connection_says_what_the_family_says();
+    bind_laws::a_bind_connection_says_what_its_list_says();
 }
