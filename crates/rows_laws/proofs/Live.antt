@@ -40,7 +40,7 @@ pub record Live (s : Settings) (F : Family) (r : UpRow) (x : Sending) : Type 0 w
   pub going : list_any (is_end o x) x.behind ≡ false
 
 -- the moment of the last answer, with an entry more
-answer_push : (o : Operation) (id at : ℕ) (es : List Entry) (e : Entry) → final_under o.request id es ≡ None → list_any (gives_id id) es ≡ false → gives_id id e ≡ false → last_answer o id at (es ++ e ∷ []) ≡ (if is_none (answer_of o.request id e) then last_answer o id at es else e.at)
+pub answer_push : (o : Operation) (id at : ℕ) (es : List Entry) (e : Entry) → final_under o.request id es ≡ None → list_any (gives_id id) es ≡ false → gives_id id e ≡ false → last_answer o id at (es ++ e ∷ []) ≡ (if is_none (answer_of o.request id e) then last_answer o id at es else e.at)
 answer_push o id at [] e h k g = ap (λ b. if b then at else if is_none (answer_of o.request id e) then at else if passes (is_final_for o.request) (answer_of o.request id e) then e.at else e.at) g ∙ by (answer_of o.request id e)
   where
     same : (b : Bool) → (if b then e.at else e.at) ≡ e.at

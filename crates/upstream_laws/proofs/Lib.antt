@@ -3,3 +3,5 @@ mod Heads
 mod Ids
 mod Facts
 mod BadMessages
+mod LastAnswers
+mod Answered
