@@ -1,44 +1,32 @@
 -- The row of a bind connection says when the last answer to its Bind came: from entry to entry.
-use Rattle.std.proofs.Common.{◌≡◌, ◌⊎◌, inl, inr, ℕ, Bool, true, false, ◌==◌, ◌&&◌, ◌||◌, not, List, [], ◌∷◌, ◌++◌, refl, ap, ◌∙◌, sym, subst, length}
-use Rattle.std.specs.Prelude.{Option, Some, None, map, filter, flat_map, is_none, is_some, if◌then◌else◌, option_map}
-use Rattle.std.specs.List.{list_any, list_all}
+use Rattle.std.proofs.Common.{◌≡◌, ℕ, Bool, true, false, ◌==◌, ◌&&◌, not, List, [], ◌∷◌, ◌++◌, refl, ap, ◌∙◌, sym, subst}
+use Rattle.std.specs.Prelude.{Option, Some, None, map, is_none, is_some, if◌then◌else◌, option_map}
 use Rattle.std.specs.Str.{bytes_eq}
 use Rattle.std.proofs.lemmas.List.{append-nil}
-use Rattle.ldap_spec.specs.Bodies.{abandon, who_am_i}
-use Rattle.ldap_spec.specs.Kinds.{fits, is_final, kind_of, same_kind, tag_of}
+use Rattle.ldap_spec.specs.Bodies.{who_am_i}
+use Rattle.ldap_spec.specs.Kinds.{fits, is_final, kind_of, tag_of}
 use Rattle.ldap_spec.specs.Messages.{Message}
 use Rattle.ldap_spec.specs.Responses.{result_code}
 use Rattle.lload_names.specs.declared.names.Entry.{Entry}
-use Rattle.lload_names.specs.declared.names.Letter.{Letter}
-use Rattle.lload_names.specs.declared.names.Letter.TheVariants.{Forward}
-use Rattle.lload_names.specs.declared.names.OpKind.TheVariants.{Bind}
-use Rattle.lload_names.specs.declared.names.OpName.{OpName}
 use Rattle.lload_names.specs.declared.names.PartName.{PartName}
-use Rattle.lload_names.specs.declared.names.What.{What}
 use Rattle.lload_names.specs.declared.names.What.TheVariants as what
 use Rattle.lload_spec.specs.Answers.{Final, Sending, answer_of, final_answer, sending_made, sendings}
 use Rattle.lload_spec.specs.CausedUp.{last_answer}
 use Rattle.lload_spec.specs.Entries.{got_message, sent_message}
-use Rattle.lload_spec.specs.Journal.{Family, same_op}
-use Rattle.lload_spec.specs.Lists.{last, passes, where_there}
-use Rattle.lload_spec.specs.Operations.{Operation, operation, is_of}
+use Rattle.lload_spec.specs.Journal.{Family}
+use Rattle.lload_spec.specs.Lists.{last, passes}
+use Rattle.lload_spec.specs.Operations.{Operation, operation}
 use Rattle.lload_spec.specs.Settings.{Settings}
-use Rattle.lload_spec.proofs.Growth.{left, right}
 use Rattle.lload_laws.specs.ConnectionGrowth.{later_sending}
 use Rattle.lload_laws.proofs.ConnectionGrowth.{sendings_grow}
-use Rattle.part_laws.proofs.ListLaws.{eqb_sym, last_push, not_true, same_op_eq}
-use Rattle.part_spec.specs.ConnectionState.{ConnectionState, Kept, UpRow, behind_message, behind_own, behind_who, connection_behind, is_abandoned_by, is_bind_row, is_under_own, is_under_who, keeps_back, rows_sent, step_connection}
-use Rattle.part_spec.specs.Marked.{Marked, Taken}
-use Rattle.part_spec.specs.Marks.{marks_connection}
-use Rattle.bind_laws.proofs.Lone.{is_lone}
+use Rattle.part_laws.proofs.ListLaws.{eqb_sym}
+use Rattle.part_spec.specs.ConnectionState.{Kept, UpRow, behind_message, behind_own, is_abandoned_by, is_bind_row, is_under_who, keeps_back}
 use Rattle.bind_laws.proofs.Meets.{bind_kind}
 use Rattle.bind_laws.proofs.Sents.{IsAnswered, IsAsked, IsLive}
-use Rattle.bind_laws.proofs.Tells.{RowsAre}
 use Rattle.lload_spec.specs.Answers.{who_id}
-use Rattle.client_answer_laws.proofs.Each.{Each, each_filter, each_imply}
+use Rattle.client_answer_laws.proofs.Each.{Each, each_imply}
 use Rattle.identity_laws.proofs.Finals.{last-map}
 use Rattle.rows_laws.proofs.Live.{answer_push}
-use Rattle.rows_laws.proofs.Somewhere.{each_flat}
 use Rattle.upstream_laws.proofs.LastAnswers.{quiet_answer, who_push}
 
 -- a row says of the last Sent when its last answer came
@@ -56,11 +44,11 @@ abbrev pub Said : Family → List UpRow → Option Sending → Type 0
 Said F rows o = Each (LastOf F o) rows
 
 -- the last Sent behind an entry that is none
-last_stays : (u : ℕ) (place : List Entry) (e : Entry) → sent_message e.what ≡ None → last (sendings u (place ++ e ∷ [])) ≡ option_map (later_sending e) (last (sendings u place))
+pub last_stays : (u : ℕ) (place : List Entry) (e : Entry) → sent_message e.what ≡ None → last (sendings u (place ++ e ∷ [])) ≡ option_map (later_sending e) (last (sendings u place))
 last_stays u place e h = ap last (sendings_grow u place e ∙ ap (λ o. map (later_sending e) (sendings u place) ++ sending_made u place e [] o) h ∙ append-nil (map (later_sending e) (sendings u place))) ∙ last-map (later_sending e) (sendings u place)
 
 -- a row behind an own message says the same
-own_same : (m : Message) (r : UpRow) → Each (λ q. (q.op ≡ r.op) × (q.answered ≡ r.answered)) (behind_own m r)
+pub own_same : (m : Message) (r : UpRow) → Each (λ q. (q.op ≡ r.op) × (q.answered ≡ r.answered)) (behind_own m r)
 own_same m r = by (bytes_eq m.rest who_am_i && passes (λ k. is_none k.who) r.kept) (is_abandoned_by m.rest r)
   where
     by : (a b : Bool) → Each (λ q. (q.op ≡ r.op) × (q.answered ≡ r.answered)) (elim a [ true ↦ record r { kept = elim r.kept [ None ↦ None | Some k ↦ Some (record k { who = Some m.id }) ] } ∷ [] | false ↦ elim b [ true ↦ [] | false ↦ r ∷ [] ] ])
@@ -69,7 +57,7 @@ own_same m r = by (bytes_eq m.rest who_am_i && passes (λ k. is_none k.who) r.ke
     by false false = ((refl, refl), tt)
 
 -- with an entry more that is no message
-said_later : (F : Family) (e : Entry) (o : Option Sending) (r q : UpRow) → got_message e.what ≡ None → q.op ≡ r.op → q.answered ≡ r.answered → LastOf F o r → LastOf F (option_map (later_sending e) o) q
+pub said_later : (F : Family) (e : Entry) (o : Option Sending) (r q : UpRow) → got_message e.what ≡ None → q.op ≡ r.op → q.answered ≡ r.answered → LastOf F o r → LastOf F (option_map (later_sending e) o) q
 said_later F e None r q n a b h = absurd h
 said_later F e (Some x) r q n a b h = record { o = h.o; found = h.found; op = h.op ∙ sym a; answered = quiet_answer h.o x.id x.at x.behind e n ∙ h.answered ∙ sym b }
 

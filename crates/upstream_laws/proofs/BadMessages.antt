@@ -1,20 +1,18 @@
 -- Each bad message takes its connection down.
-use Rattle.std.proofs.Common.{◌≡◌, ◌⊎◌, inl, inr, ℕ, Bool, true, false, ◌&&◌, not, List, [], ◌∷◌, ◌++◌, refl, ap, ◌∙◌, sym, subst, append_assoc}
+use Rattle.std.proofs.Common.{◌≡◌, ◌⊎◌, inl, inr, ℕ, Bool, true, false, ◌&&◌, not, List, [], ◌∷◌, ◌++◌, refl, ap, ◌∙◌, sym, subst}
 use Rattle.std.specs.Prelude.{Option, Some, None, is_none}
 use Rattle.std.specs.List.{list_any}
 use Rattle.ldap_spec.specs.Messages.{Message}
-use Rattle.lload_names.specs.declared.names.ConnKind.{ConnKind}
 use Rattle.lload_names.specs.declared.names.ConnKind.TheVariants.{Regular, Bind as BindKind}
 use Rattle.lload_names.specs.declared.names.EndWhy.TheVariants.{Bad}
 use Rattle.lload_names.specs.declared.names.Entry.{Entry}
-use Rattle.lload_names.specs.declared.names.PartName.{PartName}
 use Rattle.lload_names.specs.declared.names.PartName.TheVariants.{Up as Connection}
-use Rattle.lload_spec.specs.BadMessages.{MessageFacts, is_bad}
+use Rattle.lload_spec.specs.BadMessages.{is_bad}
 use Rattle.lload_spec.specs.CausedUp.{is_bad_told, message_facts as facts_by_list, takes_messages}
 use Rattle.lload_spec.specs.Entries.{got_message, is_down, is_down_by, is_linked}
 use Rattle.lload_spec.specs.Journal.{Family}
 use Rattle.lload_spec.specs.Lists.{each_split_from, first_passes, implies, passes}
-use Rattle.lload_spec.specs.Pauses.{holds_at, is_waiting, waiting_clients}
+use Rattle.lload_spec.specs.Pauses.{is_waiting, waiting_clients}
 use Rattle.lload_spec.specs.Settings.{Settings, is_kind, is_of_kind}
 use Rattle.lload_spec.proofs.Growth.{left, right, both}
 use Rattle.lload_laws.proofs.ListLaws.{implied, implies_by}
@@ -28,7 +26,7 @@ use Rattle.connection_laws.proofs.ConnectionSays.{UpSays}
 use Rattle.connection_laws.proofs.Permits.{push_entry, state_through}
 use Rattle.connection_laws.proofs.Through.{steps_are}
 use Rattle.bind_laws.specs.Turns.{BindMeets}
-use Rattle.carried_laws.specs.Laws.{ForwardsAreRight, Played}
+use Rattle.carried_laws.specs.Laws.{ForwardsAreRight}
 use Rattle.carried_laws.proofs.TurnHeads.{is_no_message}
 use Rattle.caused_laws.specs.Laws.{BindConnectionsSay}
 use Rattle.rows_laws.proofs.Known.{AtEach, Known}
@@ -48,9 +46,10 @@ module _ (s : Settings) (F : Family) (u : ℕ) where
   takes : (before : List Marked) (l : ConnectionLedger) → UpSays (entries before) l.state → behind (step_connection_ledger s) (empty_connection_ledger s u) before ≡ l → is_kind Regular l.state.kind ≡ is_of_kind s Regular u → takes_messages s u (entries before) ≡ true → (is_there l.state ≡ true) × (not (is_holding l.state) ≡ true)
   takes before l says ledger kind h =
       let there : (list_any (λ e. is_linked e.what) (entries before) && not (list_any is_down (entries before))) ≡ true = left (list_any (λ e. is_linked e.what) (entries before) && not (list_any is_down (entries before))) _ h in
-      let waits : l.state.waiting ≡ waiting_clients (entries before) = ap (λ (q : ConnectionLedger). q.state.waiting) (sym ledger) ∙ ap (λ (p : ConnectionState). p.waiting) (state_through s before (empty_connection_ledger s u) ∙ sym (steps_are s (empty_connection s u) before)) ∙ connection-waits s (empty_connection s u) before in
-      (both l.state.linked _ (says.linked ∙ left (list_any (λ e. is_linked e.what) (entries before)) _ there) (ap not says.down ∙ right (list_any (λ e. is_linked e.what) (entries before)) _ there),
-      ap (λ b. not (b && not l.state.down && is_waiting l.state.waiting)) kind ∙ ap (λ b. not (is_of_kind s Regular u && not b && is_waiting l.state.waiting)) says.down ∙ ap (λ cs. not (is_of_kind s Regular u && not (list_any is_down (entries before)) && is_waiting cs)) waits ∙ right (list_any (λ e. is_linked e.what) (entries before) && not (list_any is_down (entries before))) _ h)
+      let waits : l.state.waiting ≡ waiting_clients (entries before) = ap (λ (q : ConnectionLedger). q.state.waiting) (sym ledger) ∙ ap (λ (p : ConnectionState). p.waiting) (state_through s before (empty_connection_ledger s u) ∙ sym (steps_are s (empty_connection s u) before)) ∙ connection-waits s (empty_connection s u) before in (
+        both l.state.linked _ (says.linked ∙ left (list_any (λ e. is_linked e.what) (entries before)) _ there) (ap not says.down ∙ right (list_any (λ e. is_linked e.what) (entries before)) _ there),
+        ap (λ b. not (b && not l.state.down && is_waiting l.state.waiting)) kind ∙ ap (λ b. not (is_of_kind s Regular u && not b && is_waiting l.state.waiting)) says.down ∙ ap (λ cs. not (is_of_kind s Regular u && not (list_any is_down (entries before)) && is_waiting cs)) waits ∙ right (list_any (λ e. is_linked e.what) (entries before) && not (list_any is_down (entries before))) _ h,
+      )
 
   -- where the same messages are bad
   one_told : (before : List Marked) (l : ConnectionLedger) (m : Marked) (ms : List Marked) → UpSays (entries before) l.state → behind (step_connection_ledger s) (empty_connection_ledger s u) before ≡ l → is_kind Regular l.state.kind ≡ is_of_kind s Regular u → ((x : Message) → is_bad (message_facts l.state) x ≡ is_bad (facts_by_list s F u (entries before)) x) → is_told_by_state l.state m ms ≡ true → is_bad_told s F u (entries before) m.entry (entries ms) ≡ true

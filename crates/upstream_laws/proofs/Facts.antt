@@ -1,14 +1,13 @@
 -- What a message meets on a regular connection, by its state and by its list: the same message is bad.
-use Rattle.std.proofs.Common.{◌≡◌, ◌⊎◌, inl, inr, ℕ, Bool, true, false, ◌==◌, ◌&&◌, ◌||◌, not, List, [], ◌∷◌, ◌++◌, refl, ap, ◌∙◌, sym, subst}
+use Rattle.std.proofs.Common.{◌≡◌, inl, inr, ℕ, Bool, true, false, ◌==◌, ◌&&◌, ◌||◌, not, List, [], ◌∷◌, refl, ap, ◌∙◌, sym, subst}
 use Rattle.std.specs.Prelude.{Option, Some, None, cond, find, flat_map, map, is_none, is_some, if◌then◌else◌, option_map}
 use Rattle.std.specs.List.{list_any, list_all}
 use Rattle.std.proofs.lemmas.List.Folds.{list_any-append}
 use Rattle.ldap_spec.specs.Kinds.{is_response, kind_of}
 use Rattle.ldap_spec.specs.Messages.{Message}
-use Rattle.lload_names.specs.declared.names.Entry.{Entry}
 use Rattle.lload_names.specs.declared.names.OpKind.{OpKind}
-use Rattle.lload_spec.specs.Answers.{Final, Sending, asks_who, final_answer, gives_id, is_kept_back, is_open, sendings, who_id}
-use Rattle.lload_spec.specs.BadMessages.{MessageFacts, OpenRequest, is_bad, is_bad_answer, is_bad_for, is_bad_own, is_bad_who, is_for_own, is_ignored, is_under, is_under_who}
+use Rattle.lload_spec.specs.Answers.{Final, Sending, asks_who, final_answer, is_kept_back, is_open, sendings, who_id}
+use Rattle.lload_spec.specs.BadMessages.{MessageFacts, OpenRequest, is_bad, is_bad_for, is_bad_own, is_bad_who, is_for_own, is_ignored, is_under, is_under_who}
 use Rattle.lload_spec.specs.CausedUp.{has_got, message_facts as facts_by_list, open_request as request_of, own_bind_at, own_bind_id}
 use Rattle.lload_spec.specs.Journal.{Family, same_op}
 use Rattle.lload_spec.specs.Lists.{passes}
@@ -16,13 +15,13 @@ use Rattle.lload_spec.specs.Operations.{Operation, operation}
 use Rattle.lload_spec.specs.Settings.{Settings}
 use Rattle.lload_spec.proofs.Growth.{left, right}
 use Rattle.lload_laws.proofs.ListLaws.{find-map}
-use Rattle.part_laws.proofs.ListLaws.{eqb_same, false_by, not_true, or_left, or_right, same_number}
-use Rattle.part_spec.specs.ConnectionState.{ConnectionState, Kept, OwnWait, UpRow, message_facts, open_request}
+use Rattle.part_laws.proofs.ListLaws.{eqb_same, not_true, or_left, or_right, same_number}
+use Rattle.part_spec.specs.ConnectionState.{Kept, OwnWait, UpRow, message_facts, open_request}
 use Rattle.part_spec.specs.Fit.{ConnectionLedger}
 use Rattle.part_spec.specs.Marked.{Marked, entries}
 use Rattle.connection_laws.proofs.Apart.{are_apart, is_apart}
 use Rattle.connection_laws.proofs.Closings.{opens, opens_of}
-use Rattle.connection_laws.proofs.OwnBinds.{own_of, waiting_of}
+use Rattle.connection_laws.proofs.OwnBinds.{waiting_of}
 use Rattle.connection_laws.proofs.Rows.{is_sound, not_kept}
 use Rattle.client_answer_laws.proofs.Each.{Each, each_imply}
 use Rattle.rows_laws.proofs.Known.{Known}

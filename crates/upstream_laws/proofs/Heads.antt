@@ -1,7 +1,7 @@
 -- A bind connection's list, entry by entry: where a turn begins, what its state says is what its list says; and no other
 -- entry is a message, nor took a letter.
-use Rattle.std.proofs.Common.{◌≡◌, ◌⊎◌, inl, inr, ℕ, Bool, true, false, ◌&&◌, not, List, [], ◌∷◌, ◌++◌, refl, ap, ◌∙◌, sym, subst, append_assoc}
-use Rattle.std.specs.Prelude.{Option, Some, None, map}
+use Rattle.std.proofs.Common.{◌≡◌, ◌⊎◌, inl, inr, ℕ, true, not, List, [], ◌∷◌, ◌++◌, refl, ap, ◌∙◌, sym, subst, append_assoc}
+use Rattle.std.specs.Prelude.{Option, None, map}
 use Rattle.std.specs.List.{list_all}
 use Rattle.std.proofs.lemmas.List.{append-nil}
 use Rattle.std.proofs.lemmas.List.Folds.{list_all-append}
@@ -110,14 +110,14 @@ module _ (s : Settings) (F : Family) (u : ℕ) (kind : is_of_kind s BindKind u �
       let fit_here : are_fit_from (fits_connection s) (step_connection_ledger s) l (turn ++ rest) ≡ true = subst (λ q. are_fit_from (fits_connection s) (step_connection_ledger s) q (turn ++ rest) ≡ true) h.ledger (fit_rest s (empty_connection_ledger s u) before (turn ++ rest) fit) in
       let is_list : before ++ turn ≡ connection_list s u (h.events ++ x ∷ []) = sym (list_push s (empty_connection s u) h.events x ∙ ap (λ b. b ++ made (connection_event s) (behind (step_connection s) (empty_connection s u) b) x) h.made_by ∙ ap (λ q. before ++ made (connection_event s) q x) (sym h.knows.keeps.keeps.state)) in
       let head : Head s F u (before ++ turn) next =
-          record {
-            knows = next_tells s F u kind before l x rest h.knows fit_here;
-            told = left (are_told_rightly s F (before ++ turn)) _ (sym (list_all-append (λ m. where_there (λ t. is_told_rightly s F t.letter) m.mark) (before ++ turn) (list_of next xs)) ∙ told_next);
-            events = h.events ++ x ∷ [];
-            made_by = sym is_list;
-            fit = fit_first s (empty_connection_ledger s u) (before ++ turn) (list_of next xs) fit_next;
-            ledger = behind_more s (empty_connection_ledger s u) before turn ∙ ap (λ q. behind (step_connection_ledger s) q turn) h.ledger;
-          } in
+      record {
+        knows = next_tells s F u kind before l x rest h.knows fit_here;
+        told = left (are_told_rightly s F (before ++ turn)) _ (sym (list_all-append (λ m. where_there (λ t. is_told_rightly s F t.letter) m.mark) (before ++ turn) (list_of next xs)) ∙ told_next);
+        events = h.events ++ x ∷ [];
+        made_by = sym is_list;
+        fit = fit_first s (empty_connection_ledger s u) (before ++ turn) (list_of next xs) fit_next;
+        ledger = behind_more s (empty_connection_ledger s u) before turn ∙ ap (λ q. behind (step_connection_ledger s) q turn) h.ledger;
+      } in
       shown before l x rest h (event_whats s l.state h.knows.keeps.stands.kind x) (subst (AtHeads s F u (before ++ turn) next) same (heads_from xs (before ++ turn) next head told_next fit_next))
 
   pub heads : (xs : List Event) → are_told_rightly s F (connection_list s u xs) ≡ true → are_fit_from (fits_connection s) (step_connection_ledger s) (empty_connection_ledger s u) (connection_list s u xs) ≡ true → AtHeads s F u [] (empty_connection_ledger s u) (connection_list s u xs)

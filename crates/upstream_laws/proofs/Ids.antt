@@ -1,18 +1,16 @@
 -- The identifiers of each connection are given in order.
-use Rattle.std.proofs.Common.{◌≡◌, ◌⊎◌, inl, inr, ℕ, suc, Bool, true, false, ◌==◌, ◌&&◌, not, List, [], ◌∷◌, ◌++◌, refl, ap, ◌∙◌, sym, subst}
-use Rattle.std.specs.Prelude.{Option, Some, None, flat_map, is_none, max, if◌then◌else◌}
-use Rattle.lload_names.specs.declared.names.ConnKind.TheVariants.{Regular, Bind as BindKind}
+use Rattle.std.proofs.Common.{◌≡◌, ◌⊎◌, inl, inr, ℕ, suc, Bool, true, false, ◌==◌, List, [], ◌∷◌, ◌++◌, refl, ap, ◌∙◌, sym}
+use Rattle.std.specs.Prelude.{Option, None, flat_map, is_none, max}
 use Rattle.lload_names.specs.declared.names.Entry.{Entry}
-use Rattle.lload_names.specs.declared.names.PartName.{PartName}
 use Rattle.lload_names.specs.declared.names.PartName.TheVariants.{Up as Connection}
 use Rattle.lload_names.specs.declared.names.What.{What}
 use Rattle.lload_names.specs.declared.names.What.TheVariants as what
 use Rattle.lload_spec.specs.Entries.{sent_message}
 use Rattle.lload_spec.specs.Identifiers.{Ids, freed_by, has_right_id, has_right_ids_from, ids_at, ids_behind, ids_with, no_ids}
 use Rattle.lload_spec.specs.Journal.{Family}
-use Rattle.lload_spec.specs.Settings.{Settings, is_of_kind}
+use Rattle.lload_spec.specs.Settings.{Settings}
 use Rattle.lload_spec.proofs.Growth.{left, right, both}
-use Rattle.part_spec.specs.ConnectionState.{ConnectionState, connection_behind, empty_connection, freed_id, is_under_own, step_connection}
+use Rattle.part_spec.specs.ConnectionState.{ConnectionState, connection_behind, freed_id, is_under_own, step_connection}
 use Rattle.part_spec.specs.Fit.{ConnectionLedger, empty_connection_ledger, step_connection_ledger}
 use Rattle.part_spec.specs.Laws.{FitIsWhole}
 use Rattle.part_spec.specs.Marked.{Marked, Taken, entries}
@@ -21,7 +19,7 @@ use Rattle.part_spec.specs.Share.{ConnectionShare, each_place}
 use Rattle.connection_laws.proofs.Closings.{ids_push}
 use Rattle.connection_laws.proofs.ConnectionSays.{got_next}
 use Rattle.connection_laws.proofs.Permits.{push_entry}
-use Rattle.carried_laws.specs.Laws.{ForwardsAreRight, Played}
+use Rattle.carried_laws.specs.Laws.{ForwardsAreRight}
 use Rattle.caused_laws.specs.Laws.{BindConnectionsSay}
 use Rattle.rows_laws.proofs.Known.{AtEach, Known}
 use Rattle.rows_laws.proofs.Regular.{known_at_each}

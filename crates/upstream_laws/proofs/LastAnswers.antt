@@ -1,5 +1,5 @@
 -- The moment of an operation's last answer, with an entry more.
-use Rattle.std.proofs.Common.{◌≡◌, ℕ, Bool, true, false, ◌==◌, ◌&&◌, ◌||◌, not, List, [], ◌∷◌, ◌++◌, refl, ap, ◌∙◌, sym}
+use Rattle.std.proofs.Common.{◌≡◌, ℕ, Bool, true, false, ◌==◌, ◌&&◌, ◌||◌, List, [], ◌∷◌, ◌++◌, refl, ap, ◌∙◌, sym}
 use Rattle.std.specs.Prelude.{Option, Some, None, is_none, if◌then◌else◌, option_map}
 use Rattle.std.specs.List.{list_any}
 use Rattle.ldap_spec.specs.Kinds.{fits, kind_of}

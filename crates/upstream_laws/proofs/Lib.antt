@@ -5,3 +5,4 @@ mod Facts
 mod BadMessages
 mod LastAnswers
 mod Answered
+mod Expiries

@@ -17,3 +17,8 @@ IdentifiersAreRight =
 abbrev pub BadMessagesAreTold : Type 0
 BadMessagesAreTold =
     (s : Settings) (F : Family) (marked : PartName → List Marked) → Played s F marked → IsTrue (each_bad_told s F)
+
+-- each operation that expires is due
+abbrev pub ExpiriesAreDue : Type 0
+ExpiriesAreDue =
+    (s : Settings) (F : Family) (marked : PartName → List Marked) → Played s F marked → IsTrue (each_expired_due s F)

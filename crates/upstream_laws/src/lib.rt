@@ -3,7 +3,7 @@
 //! Each function has an empty body, and its contract is a law of joined lists that turns made.
 #![tactic(auto)]
 
-ghost use Rattle.upstream_laws.specs.Laws.{BadMessagesAreTold, IdentifiersAreRight};
+ghost use Rattle.upstream_laws.specs.Laws.{BadMessagesAreTold, ExpiriesAreDue, IdentifiersAreRight};
 
 /// Each operation and each message of the proxy's own gets the right identifier on its connection: an operation that which
 /// was freed first, else the next; an own message the next.
@@ -24,4 +24,13 @@ pub fn bad_messages_take_their_connection_down()
     part_spec::a_fit_list_begins_with_all_of_it();
     caused_laws::a_bind_connection_says_what_the_family_says();
     bind_laws::a_bind_connection_says_what_its_list_says();
+}
+
+/// Each operation that expires is due: the timeout has passed since it was sent, and since its last answer came.
+pub fn operations_expire_where_they_are_due()
+    ensures { ExpiriesAreDue }
+{
+    carried_laws::a_forward_says_of_its_operation_what_the_family_says();
+    part_spec::a_fit_list_begins_with_all_of_it();
+    caused_laws::a_bind_connection_says_what_the_family_says();
 }

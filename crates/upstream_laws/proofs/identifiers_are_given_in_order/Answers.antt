@@ -1,5 +1,4 @@
 use Rattle.upstream_laws.proofs.Ids.{ids_right}
-use Rattle.upstream_laws.proofs.Answered.{got_said}
 use Rattle.upstream_laws.proofs.identifiers_are_given_in_order.Goals as goal
 
 pub returns : goal.returns
