@@ -1,7 +1,7 @@
 pub mod Somewhere
 pub mod Live
 pub mod Lives
-mod Steps
+pub mod Steps
 pub mod OwnApart
 pub mod Walk
 pub mod Freed

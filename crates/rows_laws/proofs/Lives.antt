@@ -72,7 +72,7 @@ module _ (s : Settings) (F : Family) (e : Entry) where
       here x (r ∷ rs) a (inr k) = inr (here x rs a.1 k)
 
   -- behind the end of the connection nothing is open
-  down_shut : is_down e ≡ true → (x : Sending) → is_open_in s F (later_sending e x) ≡ true → false ≡ true
+  pub down_shut : is_down e ≡ true → (x : Sending) → is_open_in s F (later_sending e x) ≡ true → false ≡ true
   down_shut d x o = by (operation F x.op) o
     where
       shut : (a : Bool) (b c : Bool) → b ≡ true → (a && not b && c) ≡ true → false ≡ true

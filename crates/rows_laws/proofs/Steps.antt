@@ -37,7 +37,7 @@ settled_shut s F x o e k = ap (passes (λ q. is_open s q x)) e ∙ by (closing_a
     by (Some r) a b j = refl
 
 -- one behind which it expired, or was abandoned
-expired_shut : (s : Settings) (F : Family) (x : Sending) (o : Operation) → operation F x.op ≡ Some o → list_any (λ y. is_expired o.name y || is_down y) x.behind ≡ true → is_open_in s F x ≡ false
+pub expired_shut : (s : Settings) (F : Family) (x : Sending) (o : Operation) → operation F x.op ≡ Some o → list_any (λ y. is_expired o.name y || is_down y) x.behind ≡ true → is_open_in s F x ≡ false
 expired_shut s F x o e k = ap (passes (λ q. is_open s q x)) e ∙ ap (λ b. is_none (closing_at s o x) && not b && not (is_abandoned_at o x)) k ∙ by (is_none (closing_at s o x))
   where
     by : (a : Bool) → (a && false && not (is_abandoned_at o x)) ≡ false

@@ -4,10 +4,11 @@ use Rattle.std.specs.Prelude.{Option, Some, None, map, is_none, is_some, if◌th
 use Rattle.std.specs.Str.{bytes_eq}
 use Rattle.std.proofs.lemmas.List.{append-nil}
 use Rattle.ldap_spec.specs.Bodies.{who_am_i}
-use Rattle.ldap_spec.specs.Kinds.{fits, is_final, kind_of, tag_of}
+use Rattle.ldap_spec.specs.Kinds.{fits, is_final, kind_of, same_kind, tag_of}
 use Rattle.ldap_spec.specs.Messages.{Message}
 use Rattle.ldap_spec.specs.Responses.{result_code}
 use Rattle.lload_names.specs.declared.names.Entry.{Entry}
+use Rattle.lload_names.specs.declared.names.OpKind.TheVariants.{Bind}
 use Rattle.lload_names.specs.declared.names.PartName.{PartName}
 use Rattle.lload_names.specs.declared.names.What.TheVariants as what
 use Rattle.lload_spec.specs.Answers.{Final, Sending, answer_of, final_answer, sending_made, sendings}
@@ -15,7 +16,7 @@ use Rattle.lload_spec.specs.CausedUp.{last_answer}
 use Rattle.lload_spec.specs.Entries.{got_message, sent_message}
 use Rattle.lload_spec.specs.Journal.{Family}
 use Rattle.lload_spec.specs.Lists.{last, passes}
-use Rattle.lload_spec.specs.Operations.{Operation, operation}
+use Rattle.lload_spec.specs.Operations.{Operation, is_of, operation}
 use Rattle.lload_spec.specs.Settings.{Settings}
 use Rattle.lload_laws.specs.ConnectionGrowth.{later_sending}
 use Rattle.lload_laws.proofs.ConnectionGrowth.{sendings_grow}
@@ -34,6 +35,7 @@ pub record OfLast (F : Family) (r : UpRow) (x : Sending) : Type 0 where
   pub o : Operation
   pub found : operation F x.op ≡ Some o
   pub op : x.op ≡ r.op
+  pub bind : is_of Bind o ≡ true
   pub answered : last_answer o x.id x.at x.behind ≡ r.answered
 
 abbrev pub LastOf : Family → Option Sending → UpRow → Type 0
@@ -59,7 +61,7 @@ own_same m r = by (bytes_eq m.rest who_am_i && passes (λ k. is_none k.who) r.ke
 -- with an entry more that is no message
 pub said_later : (F : Family) (e : Entry) (o : Option Sending) (r q : UpRow) → got_message e.what ≡ None → q.op ≡ r.op → q.answered ≡ r.answered → LastOf F o r → LastOf F (option_map (later_sending e) o) q
 said_later F e None r q n a b h = absurd h
-said_later F e (Some x) r q n a b h = record { o = h.o; found = h.found; op = h.op ∙ sym a; answered = quiet_answer h.o x.id x.at x.behind e n ∙ h.answered ∙ sym b }
+said_later F e (Some x) r q n a b h = record { o = h.o; found = h.found; op = h.op ∙ sym a; bind = h.bind; answered = quiet_answer h.o x.id x.at x.behind e n ∙ h.answered ∙ sym b }
 
 -- A message, where its turn begins.
 module _ (s : Settings) (F : Family) (n : ℕ) (r : UpRow) (x : Sending) (l : IsLive s F n r x []) (bind : is_bind_row r ≡ true) (h : OfLast F r x) (part : PartName) (at id : ℕ) (rest : List ℕ) where
@@ -150,7 +152,7 @@ module _ (s : Settings) (F : Family) (n : ℕ) (r : UpRow) (x : Sending) (l : Is
           here false j = ((refl, pushed ∙ ap (λ c. if c then at else r.answered) (eqb_sym id w ∙ j)), tt)
 
   pub got_said : Each (λ q. OfLast F q (later_sending got x)) (behind_message at m r)
-  got_said = each_imply (λ q. (q.op ≡ r.op) × (now ≡ q.answered)) (λ q. OfLast F q (later_sending got x)) (behind_message at m r) (λ q k. record { o = l.o; found = l.found; op = l.op ∙ sym k.0; answered = k.1 }) (by r.kept refl l.answer)
+  got_said = each_imply (λ q. (q.op ≡ r.op) × (now ≡ q.answered)) (λ q. OfLast F q (later_sending got x)) (behind_message at m r) (λ q k. record { o = l.o; found = l.found; op = l.op ∙ sym k.0; bind = ap (passes (same_kind Bind)) l.kind; answered = k.1 }) (by r.kept refl l.answer)
     where
       by : (k : Option Kept) → r.kept ≡ k → IsAnswered s l.o x k [] → Each (λ q. (q.op ≡ r.op) × (now ≡ q.answered)) (behind_message at m (record r { kept = k }))
       by None e a = fresh a None refl

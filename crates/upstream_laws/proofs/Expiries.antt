@@ -136,7 +136,7 @@ module _ (s : Settings) (F : Family) where
         where
           new : (o : Option Operation) → operation F op ≡ o → op ≡ q → passes (λ y. is_of Bind y && agrees ask (asks_who s y)) o ≡ true → OfLast F (record { id = id; op = q; kind = sort; ask_who = ask; sent = at; answered = at; kept = None }) (record { connection = u; op = op; id = id; at = at; rest = rest; before = entries before; behind = [] })
           new None e same k = absurd (let bad : false ≡ true = k in cc)
-          new (Some o) e same k = record { o = o; found = e; op = same; answered = refl }
+          new (Some o) e same k = record { o = o; found = e; op = same; bind = left (is_of Bind o) _ k; answered = refl }
       sends id op rest _ mark free told = absurd (let bad : false ≡ true = mark in cc)
 
       pub said_step : (mark : Option Taken) (w : What) → Head s F u before l ⊎ Tail (record { entry = entry w; mark = mark }) → has_connection_mark l.state (record { entry = entry w; mark = mark }) ≡ true → is_sent_once l.state (entries before) (record { entry = entry w; mark = mark }) ≡ true → implies (list_any is_down (entries before)) (may_follow_down w) ≡ true → is_bind l.state ≡ true → where_there (λ t. is_told_rightly s F t.letter) mark ≡ true → after w (connection_behind s (entry w) mark l.state w).rows

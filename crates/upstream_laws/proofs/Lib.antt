@@ -6,3 +6,6 @@ mod BadMessages
 mod LastAnswers
 mod Answered
 mod Expiries
+mod Downs
+mod Held
+mod BindDowns

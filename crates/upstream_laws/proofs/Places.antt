@@ -1,6 +1,6 @@
 -- A connection is regular, or a bind connection, or has no place, and then its list is empty.
 use Rattle.std.proofs.Common.{◌≡◌, ℕ, Bool, true, false, List, [], ◌∷◌, ◌++◌, refl, ap, ◌∙◌, sym, subst}
-use Rattle.std.specs.Prelude.{Option, Some, None}
+use Rattle.std.specs.Prelude.{Option, Some, None, is_some, not}
 use Rattle.std.specs.List.{list_all}
 use Rattle.lload_names.specs.declared.names.ConnKind.{ConnKind}
 use Rattle.lload_names.specs.declared.names.ConnKind.TheVariants.{Regular, Bind as BindKind}
@@ -11,6 +11,8 @@ use Rattle.lload_names.specs.declared.inputs.Effects.{Effects}
 use Rattle.lload_names.specs.declared.plans.Place.{Place}
 use Rattle.lload_spec.specs.Entries.{is_link_reason}
 use Rattle.lload_spec.specs.Journal.{Family}
+use Rattle.lload_spec.specs.Lists.{implies}
+use Rattle.lload_spec.specs.Strict.{is_empty}
 use Rattle.lload_spec.specs.Settings.{Settings, is_kind, is_of_kind, place_at}
 use Rattle.lload_laws.proofs.ListLaws.{all_always}
 use Rattle.part_laws.specs.Turns.{Event, Comes, Severed, letter_with, list_from, no_effects}
@@ -20,7 +22,9 @@ use Rattle.part_spec.specs.Inputs.{Act, effects_of, marked_by, moment_for, nothi
 use Rattle.part_spec.specs.Marked.{Marked, entries}
 use Rattle.part_spec.specs.Turn.{connection_act, connection_sever}
 use Rattle.connection_laws.specs.Turns.{connection_event, connection_list}
+use Rattle.connection_laws.proofs.Rules.{placed_at}
 use Rattle.carried_laws.specs.Laws.{Played}
+use Rattle.upstream_laws.specs.Laws.{ConnectionsArePlaced}
 
 by_kind : {C : Type 0} (s : Settings) (u : ℕ) → (is_of_kind s Regular u ≡ true → C) → (is_of_kind s BindKind u ≡ true → C) → (place_at s u ≡ None → C) → C
 by_kind {C} s u regular bind none = by (place_at s u) refl
@@ -71,3 +75,19 @@ bind_alone s u h = by (place_at s u) h
     by : (o : Option Place) → (elim o [ None ↦ false | Some q ↦ is_kind BindKind q.kind ]) ≡ true → (elim o [ None ↦ false | Some q ↦ is_kind Regular q.kind ]) ≡ false
     by None e = refl
     by (Some q) e = sort q.kind e
+
+-- nor is a regular connection one for Binds
+pub regular_alone : (s : Settings) (u : ℕ) → is_of_kind s Regular u ≡ true → is_of_kind s BindKind u ≡ false
+regular_alone s u h = by (is_of_kind s BindKind u) refl
+  where
+    by : (b : Bool) → is_of_kind s BindKind u ≡ b → b ≡ false
+    by true e = absurd (let bad : true ≡ false = sym h ∙ bind_alone s u e in cc)
+    by false e = refl
+
+-- each connection that has entries has a place
+pub placed : ConnectionsArePlaced
+placed s F marked h = each_connection s F marked h (λ u list. implies (not (is_empty list)) (is_some (place_at s u))) (λ u kind. always (not (is_empty (entries (marked (Connection u))))) (placed_at s Regular u kind)) (λ u kind. always (not (is_empty (entries (marked (Connection u))))) (placed_at s BindKind u kind)) (λ u. refl)
+  where
+    always : (a : Bool) {b : Bool} → b ≡ true → implies a b ≡ true
+    always true k = k
+    always false k = refl

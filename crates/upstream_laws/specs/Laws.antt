@@ -1,10 +1,13 @@
 -- What the promises say of upstream connections, by what their states say.
-use Rattle.std.specs.Prelude.{List, IsTrue}
+use Rattle.std.specs.Prelude.{◌≡◌, ℕ, true, List, IsTrue}
+use Rattle.lload_names.specs.declared.names.ConnKind.TheVariants.{Regular}
 use Rattle.lload_names.specs.declared.names.PartName.{PartName}
-use Rattle.lload_spec.specs.CausedUp.{each_bad_told, each_expired_due}
+use Rattle.lload_spec.specs.CausedUp.{each_bad_told, each_expired_due, is_down_caused}
 use Rattle.lload_spec.specs.Identifiers.{each_id_right}
 use Rattle.lload_spec.specs.Journal.{Family}
-use Rattle.lload_spec.specs.Settings.{Settings}
+use Rattle.lload_spec.specs.Settings.{Settings, is_of_kind}
+use Rattle.lload_spec.specs.Lists.{each_entry}
+use Rattle.lload_spec.specs.Strict.{each_connection_placed}
 use Rattle.part_spec.specs.Marked.{Marked}
 use Rattle.carried_laws.specs.Laws.{Played}
 
@@ -22,3 +25,15 @@ BadMessagesAreTold =
 abbrev pub ExpiriesAreDue : Type 0
 ExpiriesAreDue =
     (s : Settings) (F : Family) (marked : PartName → List Marked) → Played s F marked → IsTrue (each_expired_due s F)
+
+-- each end of a regular connection has its cause
+abbrev pub RegularEndsAreCaused : Type 0
+RegularEndsAreCaused =
+    (s : Settings) (F : Family) (marked : PartName → List Marked) → Played s F marked
+    → (u : ℕ) → is_of_kind s Regular u ≡ true → IsTrue (each_entry (is_down_caused s F u) (F.connection u))
+
+-- each connection that has entries has a place
+abbrev pub ConnectionsArePlaced : Type 0
+ConnectionsArePlaced =
+    (s : Settings) (F : Family) (marked : PartName → List Marked) → Played s F marked
+    → IsTrue (each_connection_placed s F)

@@ -3,7 +3,7 @@
 //! Each function has an empty body, and its contract is a law of joined lists that turns made.
 #![tactic(auto)]
 
-ghost use Rattle.upstream_laws.specs.Laws.{BadMessagesAreTold, ExpiriesAreDue, IdentifiersAreRight};
+ghost use Rattle.upstream_laws.specs.Laws.{BadMessagesAreTold, ConnectionsArePlaced, ExpiriesAreDue, IdentifiersAreRight, RegularEndsAreCaused};
 
 /// Each operation and each message of the proxy's own gets the right identifier on its connection: an operation that which
 /// was freed first, else the next; an own message the next.
@@ -34,3 +34,17 @@ pub fn operations_expire_where_they_are_due()
     part_spec::a_fit_list_begins_with_all_of_it();
     caused_laws::a_bind_connection_says_what_the_family_says();
 }
+
+/// Each end of a regular connection has its cause: its own Bind wasn't answered in time or was refused, it was retired with
+/// nothing open, a bad message came, or its link ended.
+pub fn regular_connections_end_for_a_cause()
+    ensures { RegularEndsAreCaused }
+{
+    carried_laws::a_forward_says_of_its_operation_what_the_family_says();
+    part_spec::a_fit_list_begins_with_all_of_it();
+}
+
+/// Each connection that has entries has a place in a plan.
+pub fn connections_with_entries_have_places()
+    ensures { ConnectionsArePlaced }
+{}
