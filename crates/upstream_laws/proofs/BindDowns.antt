@@ -1,16 +1,14 @@
 -- Each end of a bind connection has its cause, but for an exchange that its client left.
-use Rattle.std.proofs.Common.{◌≡◌, ◌⊎◌, inl, inr, ℕ, Bool, true, false, ◌==◌, ◌&&◌, ◌||◌, not, List, [], ◌∷◌, ◌++◌, length, refl, ap, ◌∙◌, sym, subst}
-use Rattle.std.specs.Prelude.{Option, Some, None, cond, map, filter, flat_map, find, is_none, is_some, if◌then◌else◌, option_map}
+use Rattle.std.proofs.Common.{◌≡◌, ◌⊎◌, inl, inr, ℕ, Bool, true, false, ◌==◌, ◌&&◌, ◌||◌, not, List, [], ◌∷◌, ◌++◌, refl, ap, ◌∙◌, sym, subst}
+use Rattle.std.specs.Prelude.{Option, Some, None, cond, map, filter, flat_map, is_none, is_some, if◌then◌else◌, option_map}
 use Rattle.std.specs.List.{list_any, list_all}
 use Rattle.std.specs.Str.{bytes_eq}
 use Rattle.std.proofs.lemmas.List.{append-nil, map-append}
 use Rattle.ldap_spec.specs.Bodies.{abandon, who_am_i}
-use Rattle.ldap_spec.specs.Kinds.{fits, is_final, is_intermediate, same_kind, tag_of}
+use Rattle.ldap_spec.specs.Kinds.{fits, is_final, is_intermediate, tag_of}
 use Rattle.ldap_spec.specs.Responses.{has_code, result_code}
 use Rattle.ldap_spec.specs.Messages.{Message}
 use Rattle.lload_names.specs.declared.names.Entry.{Entry}
-use Rattle.lload_names.specs.declared.names.Letter.{Letter}
-use Rattle.lload_names.specs.declared.names.Letter.TheVariants.{Forward}
 use Rattle.lload_names.specs.declared.names.OpKind.TheVariants.{Bind}
 use Rattle.lload_names.specs.declared.names.OpName.{OpName}
 use Rattle.lload_names.specs.declared.names.PartName.{PartName}
@@ -23,12 +21,11 @@ use Rattle.lload_spec.specs.Journal.{Family, same_op}
 use Rattle.lload_spec.specs.Lists.{last, passes}
 use Rattle.lload_spec.specs.Operations.{Operation, operation}
 use Rattle.lload_spec.specs.Settings.{Settings}
-use Rattle.lload_spec.proofs.Growth.{left, right, both}
+use Rattle.lload_spec.proofs.Growth.{left, right}
 use Rattle.lload_laws.specs.ConnectionGrowth.{later_sending}
 use Rattle.lload_laws.proofs.ConnectionGrowth.{sendings_grow}
-use Rattle.part_laws.proofs.ListLaws.{any_behind, false_by, last_push, not_true, or_elim, or_left, or_right, same_op_eq, same_op_refl}
-use Rattle.part_spec.specs.ConnectionState.{ConnectionState, Kept, UpRow, behind_message, behind_own, connection_behind, frees_holder, is_abandoned_by, step_connection, is_bind_row, is_under, is_under_own, is_under_who, keeps_back, lets_go}
-use Rattle.part_spec.specs.Marked.{Marked, Taken}
+use Rattle.part_laws.proofs.ListLaws.{any_behind, last_push, not_true, or_elim, or_left, same_op_eq, same_op_refl}
+use Rattle.part_spec.specs.ConnectionState.{ConnectionState, Kept, UpRow, behind_message, behind_own, frees_holder, step_connection, is_bind_row, is_under, is_under_own, is_under_who, keeps_back, lets_go}
 use Rattle.connection_laws.proofs.Closings.{closed_stay, is_closed}
 use Rattle.bind_laws.proofs.Lone.{is_lone}
 use Rattle.bind_laws.proofs.Meets.{bind_kind}
@@ -38,9 +35,9 @@ use Rattle.caused_laws.proofs.Holders.{HeldBy, Holds, Inv, IsOver, LastHolds, in
 use Rattle.client_answer_laws.proofs.Each.{Each, each_append, each_imply, each_map}
 use Rattle.rows_laws.proofs.Live.{opened_before}
 use Rattle.rows_laws.proofs.Lives.{down_shut, is_open_in}
-use Rattle.rows_laws.proofs.Somewhere.{OneIn, filter_flat, one_flat, one_imply}
+use Rattle.rows_laws.proofs.Somewhere.{OneIn, filter_flat, one_flat}
 use Rattle.rows_laws.proofs.Steps.{expired_shut, op_named, settled_shut}
-use Rattle.upstream_laws.proofs.Answered.{LastOf, OfLast, Said, last_stays}
+use Rattle.upstream_laws.proofs.Answered.{Said, last_stays}
 use Rattle.upstream_laws.proofs.Held.{gone_closed, is_letting, let_go, settled_unheld, unheld_later}
 
 -- a Sent that is open has a row
@@ -52,11 +49,11 @@ abbrev pub Unheld : Settings → Family → Option Sending → Type 0
 Unheld s F None = Unit {0}
 Unheld s F (Some x) = of_operation F (is_holding s) x ≡ false
 
-unheld_more : (s : Settings) (F : Family) (e : Entry) (o : Option Sending) → Unheld s F o → Unheld s F (option_map (later_sending e) o)
+pub unheld_more : (s : Settings) (F : Family) (e : Entry) (o : Option Sending) → Unheld s F o → Unheld s F (option_map (later_sending e) o)
 unheld_more s F e None h = tt
 unheld_more s F e (Some x) h = unheld_later s F e x h
 
-unheld_behind : (s : Settings) (F : Family) (e : Entry) (o : Option Sending) → is_letting e ≡ true → Unheld s F (option_map (later_sending e) o)
+pub unheld_behind : (s : Settings) (F : Family) (e : Entry) (o : Option Sending) → is_letting e ≡ true → Unheld s F (option_map (later_sending e) o)
 unheld_behind s F e None h = tt
 unheld_behind s F e (Some x) h = let_go s F (later_sending e x) (any_behind is_letting x.behind (e ∷ []) (or_left (is_letting e) false h))
 

@@ -8,7 +8,6 @@ use Rattle.lload_names.specs.declared.names.EndWhy.TheVariants.{Drained, OwnBind
 use Rattle.lload_names.specs.declared.names.Entry.{Entry}
 use Rattle.lload_names.specs.declared.names.Letter.{Letter}
 use Rattle.lload_names.specs.declared.names.Letter.TheVariants.{Leave}
-use Rattle.lload_names.specs.declared.names.PartName.{PartName}
 use Rattle.lload_names.specs.declared.names.PartName.TheVariants.{Up as Connection}
 use Rattle.lload_spec.specs.Answers.{Sending, is_open, of_operation, sendings}
 use Rattle.lload_spec.specs.CausedUp.{has_down_cause, holder, is_bind_expired, is_down_caused, is_drained, is_holding, is_own_bind_due}
@@ -20,18 +19,18 @@ use Rattle.lload_spec.proofs.Growth.{left, right, both}
 use Rattle.part_laws.proofs.ListLaws.{false_by, or_elim, or_right}
 use Rattle.part_spec.specs.ConnectionState.{ConnectionState, is_bind, step_connection}
 use Rattle.part_spec.specs.ConnectionTurn.{is_drained as is_drained_by_state}
-use Rattle.part_spec.specs.Fit.{ConnectionLedger, are_fit_from, empty_connection_ledger, fits_connection, is_forward_for, is_leave_of, is_taken_last, is_unfit, step_connection_ledger}
+use Rattle.part_spec.specs.Fit.{ConnectionLedger, are_fit_from, empty_connection_ledger, fits_connection, is_unfit, step_connection_ledger}
 use Rattle.part_spec.specs.Laws.{FitIsWhole}
 use Rattle.part_spec.specs.Marked.{Marked, Taken, entries}
 use Rattle.part_spec.specs.Share.{ConnectionShare, each_place, has_down_cause as has_cause_by_state, has_letter, is_down_caused as is_caused_by_state, leaves}
 use Rattle.connection_laws.proofs.Permits.{push_entry}
 use Rattle.connection_laws.proofs.Through.{no_rows}
-use Rattle.carried_laws.specs.Laws.{ForwardsAreRight, Played}
+use Rattle.carried_laws.specs.Laws.{ForwardsAreRight}
 use Rattle.client_answer_laws.proofs.Each.{Each}
 use Rattle.joined_laws.proofs.Taken.{is_fit_there}
 use Rattle.rows_laws.proofs.Known.{AtEach, Known}
 use Rattle.rows_laws.proofs.Live.{Live}
-use Rattle.rows_laws.proofs.Lives.{Lives, is_open_in}
+use Rattle.rows_laws.proofs.Lives.{is_open_in}
 use Rattle.rows_laws.proofs.Regular.{known_at_each}
 use Rattle.rows_laws.proofs.Somewhere.{OneIn}
 use Rattle.upstream_laws.specs.Laws.{RegularEndsAreCaused}

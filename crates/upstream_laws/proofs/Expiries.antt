@@ -54,7 +54,7 @@ use Rattle.upstream_laws.proofs.Heads.{AtHeads, Head, Tail, bind_heads}
 use Rattle.upstream_laws.proofs.Places.{each_connection}
 
 -- the last of some passes, so one does
-last_any : {A : Type 0} (t : A → Bool) (xs : List A) (x : A) → last xs ≡ Some x → t x ≡ true → list_any t xs ≡ true
+pub last_any : {A : Type 0} (t : A → Bool) (xs : List A) (x : A) → last xs ≡ Some x → t x ≡ true → list_any t xs ≡ true
 last_any t [] x h k = absurd (let bad : None ≡ Some x = h in cc)
 last_any t (y ∷ []) x h k = let same : y ≡ x = cc in or_left (t y) false (ap t same ∙ k)
 last_any t (y ∷ z ∷ xs) x h k = or_right (t y) _ (last_any t (z ∷ xs) x h k)

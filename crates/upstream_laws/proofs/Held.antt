@@ -1,5 +1,5 @@
 -- When the Bind of a Sent no longer holds its connection: with an entry more, and behind a message.
-use Rattle.std.proofs.Common.{◌≡◌, ◌⊎◌, inl, inr, ℕ, Bool, true, false, ◌==◌, ◌&&◌, ◌||◌, not, List, [], ◌∷◌, ◌++◌, refl, ap, ◌∙◌, sym, subst}
+use Rattle.std.proofs.Common.{◌≡◌, inl, inr, ℕ, Bool, true, false, ◌==◌, ◌&&◌, ◌||◌, not, List, [], ◌∷◌, ◌++◌, refl, ap, ◌∙◌, sym, subst}
 use Rattle.std.specs.Prelude.{Option, Some, None, is_none, is_some}
 use Rattle.std.specs.List.{list_any}
 use Rattle.ldap_spec.specs.Bodies.{who_am_i}
@@ -10,9 +10,8 @@ use Rattle.lload_names.specs.declared.names.EndWhy.TheVariants.{Bad}
 use Rattle.lload_names.specs.declared.names.Entry.{Entry}
 use Rattle.lload_names.specs.declared.names.OpKind.TheVariants.{Bind}
 use Rattle.lload_names.specs.declared.names.PartName.{PartName}
-use Rattle.lload_names.specs.declared.names.What.{What}
 use Rattle.lload_names.specs.declared.names.What.TheVariants as what
-use Rattle.lload_spec.specs.Answers.{Final, Sending, closing_at, closing_by, final_answer, is_left_in_progress, of_operation, sendings}
+use Rattle.lload_spec.specs.Answers.{Final, Sending, closing_at, closing_by, final_answer, is_left_in_progress, of_operation}
 use Rattle.lload_spec.specs.CausedUp.{is_holding}
 use Rattle.lload_spec.specs.Entries.{is_down, is_own, missed_op}
 use Rattle.lload_spec.specs.Journal.{Family}

@@ -9,3 +9,5 @@ mod Expiries
 mod Downs
 mod Held
 mod BindDowns
+mod BindEnds
+mod Ends

@@ -3,7 +3,7 @@
 //! Each function has an empty body, and its contract is a law of joined lists that turns made.
 #![tactic(auto)]
 
-ghost use Rattle.upstream_laws.specs.Laws.{BadMessagesAreTold, ConnectionsArePlaced, ExpiriesAreDue, IdentifiersAreRight, RegularEndsAreCaused};
+ghost use Rattle.upstream_laws.specs.Laws.{BadMessagesAreTold, ConnectionsArePlaced, EndsAreCaused, ExpiriesAreDue, IdentifiersAreRight, RegularEndsAreCaused};
 
 /// Each operation and each message of the proxy's own gets the right identifier on its connection: an operation that which
 /// was freed first, else the next; an own message the next.
@@ -48,3 +48,14 @@ pub fn regular_connections_end_for_a_cause()
 pub fn connections_with_entries_have_places()
     ensures { ConnectionsArePlaced }
 {}
+
+/// Each end of a connection has its cause: a Bind on it, or its own Bind, wasn't answered in time, it was retired with
+/// nothing open and no holder, its own Bind was refused, a bad message came, or its link ended. What is left open is an end
+/// for an exchange that its client left.
+pub fn connections_end_for_a_cause()
+    ensures { EndsAreCaused }
+{
+    carried_laws::a_forward_says_of_its_operation_what_the_family_says();
+    part_spec::a_fit_list_begins_with_all_of_it();
+    caused_laws::a_bind_connection_says_what_the_family_says();
+}

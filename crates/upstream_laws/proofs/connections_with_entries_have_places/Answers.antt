@@ -1,5 +1,4 @@
 use Rattle.upstream_laws.proofs.Places.{placed}
-use Rattle.upstream_laws.proofs.BindDowns.{rowed_got}
 use Rattle.upstream_laws.proofs.connections_with_entries_have_places.Goals as goal
 
 pub returns : goal.returns
