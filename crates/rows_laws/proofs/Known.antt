@@ -111,7 +111,7 @@ pub record RegularKnows (s : Settings) (F : Family) (u : ℕ) (before : List Mar
   pub ledger : behind (step_connection_ledger s) (empty_connection_ledger s u) before ≡ l
   pub known : are_forwards_right s F before ≡ true → AtEach s (Known s F u) [] (empty_connection_ledger s u) before
 
-behind_more : (s : Settings) (l : ConnectionLedger) (L M : List Marked) → behind (step_connection_ledger s) l (L ++ M) ≡ behind (step_connection_ledger s) (behind (step_connection_ledger s) l L) M
+pub behind_more : (s : Settings) (l : ConnectionLedger) (L M : List Marked) → behind (step_connection_ledger s) l (L ++ M) ≡ behind (step_connection_ledger s) (behind (step_connection_ledger s) l L) M
 behind_more s l [] M = refl
 behind_more s l (m ∷ L) M = behind_more s (step_connection_ledger s l m) L M
 

@@ -1,5 +1,5 @@
 -- Rows and Sents: each row is that of a live Sent, and each open Sent has one. What they become with an entry more.
-use Rattle.std.proofs.Common.{◌≡◌, ◌⊎◌, inl, inr, Bool, true, false, ◌&&◌, ◌||◌, not, List, [], ◌∷◌, ◌++◌, ◌∙◌, sym, subst}
+use Rattle.std.proofs.Common.{◌≡◌, ◌⊎◌, inl, inr, Bool, true, false, ◌&&◌, ◌||◌, not, List, [], ◌∷◌, ◌++◌, ◌∙◌, sym, subst, ap, refl}
 use Rattle.std.specs.Prelude.{Option, Some, None, map, flat_map, is_none}
 use Rattle.std.specs.List.{list_any}
 use Rattle.lload_names.specs.declared.names.Entry.{Entry}
@@ -10,7 +10,7 @@ use Rattle.lload_spec.specs.Lists.{passes}
 use Rattle.lload_spec.specs.Operations.{Operation, operation}
 use Rattle.lload_spec.specs.Settings.{Settings}
 use Rattle.lload_laws.specs.ConnectionGrowth.{later_sending}
-use Rattle.part_laws.proofs.ListLaws.{any_behind, or_left, or_right}
+use Rattle.part_laws.proofs.ListLaws.{any_behind, false_by, or_left, or_right}
 use Rattle.part_spec.specs.ConnectionState.{UpRow, put_row}
 use Rattle.client_answer_laws.proofs.Each.{Each, each_append, each_both, each_imply, each_map}
 use Rattle.rows_laws.proofs.Live.{Live, opened_before}
@@ -94,3 +94,8 @@ lives_put s F r x rows sents l h =
       of_rows = each_put (λ q. OneIn (λ y. Live s F q y) (sents ++ x ∷ [])) r rows (one_behind (λ y. Live s F r y) sents (x ∷ []) (inl l)) (each_imply (λ q. OneIn (λ y. Live s F q y) sents) (λ q. OneIn (λ y. Live s F q y) (sents ++ x ∷ [])) rows (λ q k. one_before (λ y. Live s F q y) sents (x ∷ []) k) h.of_rows);
       of_sents = each_append (λ y. is_open_in s F y ≡ true → OneIn (λ q. Live s F q y) (put_row r rows)) sents (x ∷ []) (each_imply (λ y. is_open_in s F y ≡ true → OneIn (λ q. Live s F q y) rows) (λ y. is_open_in s F y ≡ true → OneIn (λ q. Live s F q y) (put_row r rows)) sents (λ y k o. one_put (λ q. Live s F q y) r rows (k o)) h.of_sents) (λ o. one_new (λ q. Live s F q x) r rows l, tt);
     }
+
+-- where none is open, no test finds one
+pub none_open : (s : Settings) (F : Family) (sents : List Sending) → Each (λ x. is_open_in s F x ≡ true → ⊥) sents → list_any (of_operation F (is_open s)) sents ≡ false
+none_open s F [] h = refl
+none_open s F (x ∷ sents) h = ap (λ b. b || list_any (of_operation F (is_open s)) sents) (false_by (is_open_in s F x) (λ k. absurd (h.0 k))) ∙ none_open s F sents h.1

@@ -25,7 +25,7 @@ pub record OwnApart (rows : List UpRow) (ids : Ids) (own : OwnWait) : Type 0 whe
   pub free : list_any (λ n. n == own.id) ids.free ≡ false
   pub below : nat_lt own.id ids.next ≡ true
 
-below_apart : (m n : ℕ) → nat_lt m n ≡ true → (n == m) ≡ false
+pub below_apart : (m n : ℕ) → nat_lt m n ≡ true → (n == m) ≡ false
 below_apart m n h = grind (arith, nat_tests, h)
 
 -- none of these numbers, which are all others

@@ -1,8 +1,7 @@
 -- A regular connection's list, from entry to entry: its rows are its open Sents.
-use Rattle.std.proofs.Common.{◌≡◌, ℕ, Bool, true, false, ◌==◌, ◌&&◌, ◌||◌, not, List, [], ◌∷◌, ◌++◌, refl, ap, ◌∙◌, sym, subst, arith}
+use Rattle.std.proofs.Common.{◌≡◌, ℕ, Bool, true, false, ◌==◌, ◌&&◌, ◌||◌, not, List, [], ◌∷◌, ◌++◌, refl, ap, ◌∙◌, sym, subst}
 use Rattle.std.specs.Prelude.{Option, Some, None, map, flat_map, filter, cond, nat_lt, if◌then◌else◌}
 use Rattle.std.specs.List.{list_all}
-use Rattle.std.proofs.lemmas.Bool.Decides.{nat_tests}
 use Rattle.std.proofs.lemmas.List.{append-nil}
 use Rattle.ldap_spec.specs.Kinds.{fits, kind_of, same_kind}
 use Rattle.lload_names.specs.declared.names.Entry.{Entry}
@@ -34,12 +33,9 @@ use Rattle.carried_laws.specs.Laws.{is_forward_right, says_rightly}
 use Rattle.carried_laws.proofs.RegularReplies.{same_kind_eq}
 use Rattle.rows_laws.proofs.Live.{Live, is_end, live_idle}
 use Rattle.rows_laws.proofs.Lives.{Lives, lives_down, lives_move, lives_put, lives_stay}
-use Rattle.rows_laws.proofs.OwnApart.{OwnApart}
+use Rattle.rows_laws.proofs.OwnApart.{OwnApart, below_apart}
 use Rattle.rows_laws.proofs.Somewhere.{filter_flat}
 use Rattle.rows_laws.proofs.Steps.{expired_moves, got_moves, own_moves}
-
-below_apart : (m n : ℕ) → nat_lt m n ≡ true → (n == m) ≡ false
-below_apart m n h = grind (arith, nat_tests, h)
 
 agrees_is : (a b : Bool) → agrees a b ≡ true → b ≡ a
 agrees_is true true h = refl

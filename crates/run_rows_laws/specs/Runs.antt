@@ -1,6 +1,5 @@
 -- What is proved of upstream connections in every run of the parts, as statements.
 use Rattle.std.specs.Prelude.{◌≡◌, ℕ, true, List, IsTrue}
-use Rattle.std.specs.List.{list_all}
 use Rattle.lload_names.specs.declared.names.ConnKind.TheVariants.{Regular}
 use Rattle.lload_names.specs.declared.names.PartName.TheVariants.{Up as Connection}
 use Rattle.lload_spec.specs.CausedUp.{each_bad_told, each_expired_due, is_down_caused}
@@ -12,7 +11,7 @@ use Rattle.part_spec.specs.Merge.{PartMove, world_of}
 use Rattle.part_spec.specs.World.{list_in}
 use Rattle.link_laws.specs.Moves.{end_rightly}
 use Rattle.rows_laws.specs.Laws.{RowsAreOpen}
-use Rattle.upstream_laws.specs.Laws.{is_end_caused}
+use Rattle.upstream_laws.specs.Laws.{each_end_caused}
 use Rattle.run_laws.specs.Runs.{family_of_run}
 
 -- at each place of a regular connection's list the rows of its state are the Sents that are open there
@@ -39,8 +38,7 @@ RunsExpireWhereDue =
 -- each end of a connection has its cause, but for an exchange that its client left
 abbrev pub RunsEndForACause : Type 0
 RunsEndForACause =
-    (s : Settings) (ms : List PartMove) → IsTrue (end_rightly ms)
-    → IsTrue (list_all (λ u. each_entry (is_end_caused s (family_of_run s ms) u) ((family_of_run s ms).connection u)) (family_of_run s ms).connections)
+    (s : Settings) (ms : List PartMove) → IsTrue (end_rightly ms) → IsTrue (each_end_caused s (family_of_run s ms))
 
 -- each end of a regular connection has its cause
 abbrev pub RunsEndRegularForACause : Type 0

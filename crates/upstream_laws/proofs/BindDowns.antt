@@ -37,6 +37,7 @@ use Rattle.rows_laws.proofs.Live.{opened_before}
 use Rattle.rows_laws.proofs.Lives.{down_shut, is_open_in}
 use Rattle.rows_laws.proofs.Somewhere.{OneIn, filter_flat, one_flat}
 use Rattle.rows_laws.proofs.Steps.{expired_shut, op_named, settled_shut}
+use Rattle.rows_laws.proofs.Walk.{each_row}
 use Rattle.upstream_laws.proofs.Answered.{Said, last_stays}
 use Rattle.upstream_laws.proofs.Held.{gone_closed, is_letting, let_go, settled_unheld, unheld_later}
 
@@ -76,10 +77,6 @@ module _ (s : Settings) (F : Family) (e : Entry) where
       shut : (q : Option Operation) → operation F x.op ≡ q → passes (λ o. is_some (closing_at s o x)) q ≡ true → is_open_in s F x ≡ true → false ≡ true
       shut None z k o = k
       shut (Some q) z k o = sym (settled_shut s F x q z k) ∙ o
-
-each_row : (t : UpRow → Bool) (rows : List UpRow) → list_all t rows ≡ true → Each (λ r. t r ≡ true) rows
-each_row t [] h = tt
-each_row t (r ∷ rows) h = (left (t r) _ h, each_row t rows (right (t r) _ h))
 
 -- Behind an entry of each kind.
 module _ (s : Settings) (F : Family) (u : ℕ) (place : List Entry) (part : PartName) (at : ℕ) (rows : List UpRow) (h : Each (Rowed s F rows) (sendings u place)) where

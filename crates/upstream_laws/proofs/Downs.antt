@@ -1,5 +1,5 @@
 -- Each end of a regular connection has its cause.
-use Rattle.std.proofs.Common.{◌≡◌, ℕ, Bool, true, false, ◌==◌, ◌&&◌, ◌||◌, not, List, [], ◌∷◌, ◌++◌, length, refl, ap, ◌∙◌, sym, subst}
+use Rattle.std.proofs.Common.{◌≡◌, ℕ, Bool, true, false, ◌==◌, ◌&&◌, not, List, [], ◌∷◌, ◌++◌, length, refl, ap, ◌∙◌, sym, subst}
 use Rattle.std.specs.Prelude.{Option, Some, None, is_none, is_some, if◌then◌else◌}
 use Rattle.std.specs.List.{list_any}
 use Rattle.lload_names.specs.declared.names.ConnKind.TheVariants.{Bind as BindKind, Regular}
@@ -16,7 +16,7 @@ use Rattle.lload_spec.specs.Journal.{Family}
 use Rattle.lload_spec.specs.Lists.{each_split_from, last, last_passes, passes, where_there}
 use Rattle.lload_spec.specs.Settings.{Settings, is_kind, is_of_kind}
 use Rattle.lload_spec.proofs.Growth.{left, right, both}
-use Rattle.part_laws.proofs.ListLaws.{false_by, or_elim, or_right}
+use Rattle.part_laws.proofs.ListLaws.{or_elim, or_right}
 use Rattle.part_spec.specs.ConnectionState.{ConnectionState, is_bind, step_connection}
 use Rattle.part_spec.specs.ConnectionTurn.{is_drained as is_drained_by_state}
 use Rattle.part_spec.specs.Fit.{ConnectionLedger, are_fit_from, empty_connection_ledger, fits_connection, is_unfit, step_connection_ledger}
@@ -30,18 +30,13 @@ use Rattle.client_answer_laws.proofs.Each.{Each}
 use Rattle.joined_laws.proofs.Taken.{is_fit_there}
 use Rattle.rows_laws.proofs.Known.{AtEach, Known}
 use Rattle.rows_laws.proofs.Live.{Live}
-use Rattle.rows_laws.proofs.Lives.{is_open_in}
+use Rattle.rows_laws.proofs.Lives.{is_open_in, none_open}
 use Rattle.rows_laws.proofs.Regular.{known_at_each}
 use Rattle.rows_laws.proofs.Somewhere.{OneIn}
 use Rattle.upstream_laws.specs.Laws.{RegularEndsAreCaused}
 use Rattle.upstream_laws.proofs.Places.{regular_alone}
 
 module _ (s : Settings) (F : Family) (u : ℕ) (kind : is_of_kind s Regular u ≡ true) where
-  -- without rows nothing is open
-  none_open : (sents : List Sending) → Each (λ x. is_open_in s F x ≡ true → OneIn (λ r. Live s F r x) []) sents → list_any (of_operation F (is_open s)) sents ≡ false
-  none_open [] h = refl
-  none_open (x ∷ sents) h = ap (λ b. b || list_any (of_operation F (is_open s)) sents) (false_by (is_open_in s F x) (λ k. absurd (h.0 k))) ∙ none_open sents h.1
-
   abbrev holder_by : Bool → Option Sending → Option ℕ
   holder_by b o = elim o [ None ↦ None | Some x ↦ if b && of_operation F (is_holding s) x then Some x.op.client else None ]
 
@@ -62,7 +57,7 @@ module _ (s : Settings) (F : Family) (u : ℕ) (kind : is_of_kind s Regular u �
         let none : l.state.rows ≡ [] = no_rows l.state.rows (right (l.state.retired && not l.state.down) _ empty) in
         both (list_any (λ e. is_retired e.what) (entries before) && not (list_any (of_operation F (is_open s)) (sendings u (entries before)))) _
         (both (list_any (λ e. is_retired e.what) (entries before)) _ (sym h.stands.says.retired ∙ left l.state.retired _ (left (l.state.retired && not l.state.down) _ empty))
-        (ap not (none_open (sendings u (entries before)) (subst (λ rows. Each (λ x. is_open_in s F x ≡ true → OneIn (λ r. Live s F r x) rows) (sendings u (entries before))) none h.lives.of_sents))))
+        (ap not (none_open s F (sendings u (entries before)) (subst (λ rows. Each (λ x. is_open_in s F x ≡ true → OneIn (λ r. Live s F r x) rows) (sendings u (entries before))) none h.lives.of_sents))))
         (ap is_none (no_holder (entries before)))
 
     -- no Leave comes

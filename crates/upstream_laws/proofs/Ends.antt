@@ -16,7 +16,7 @@ use Rattle.lload_spec.specs.Lists.{agrees, each_split_from, implies, last, last_
 use Rattle.lload_spec.specs.Settings.{Settings, is_of_kind}
 use Rattle.lload_spec.specs.Strict.{is_empty, lives_as_connection, may_follow_down}
 use Rattle.lload_spec.proofs.Growth.{left, right, both}
-use Rattle.part_laws.proofs.ListLaws.{false_by, or_elim, or_left, or_right}
+use Rattle.part_laws.proofs.ListLaws.{or_elim, or_left, or_right}
 use Rattle.part_spec.specs.ConnectionState.{ConnectionState, is_bind, step_connection}
 use Rattle.part_spec.specs.ConnectionTurn.{is_drained as is_drained_by_state}
 use Rattle.part_spec.specs.Fit.{ConnectionLedger, are_fit_from, empty_connection_ledger, fits_connection, is_unfit, step_connection_ledger}
@@ -32,7 +32,7 @@ use Rattle.carried_laws.specs.Laws.{ForwardsAreRight}
 use Rattle.caused_laws.specs.Laws.{BindConnectionsSay}
 use Rattle.client_answer_laws.proofs.Each.{Each}
 use Rattle.joined_laws.proofs.Taken.{is_fit_there}
-use Rattle.rows_laws.proofs.Lives.{is_open_in}
+use Rattle.rows_laws.proofs.Lives.{none_open}
 use Rattle.rows_laws.proofs.Regular.{known_at_each}
 use Rattle.upstream_laws.specs.Laws.{EndsAreCaused, is_end_caused}
 use Rattle.upstream_laws.proofs.BindDowns.{Rowed, Unheld}
@@ -42,11 +42,6 @@ use Rattle.upstream_laws.proofs.Heads.{AtHeads, bind_heads}
 use Rattle.upstream_laws.proofs.Places.{each_connection}
 
 module _ (s : Settings) (F : Family) (u : ℕ) (kind : is_of_kind s BindKind u ≡ true) where
-  -- without rows nothing is open
-  none_open : (sents : List Sending) → Each (Rowed s F []) sents → list_any (of_operation F (is_open s)) sents ≡ false
-  none_open [] h = refl
-  none_open (x ∷ sents) h = ap (λ b. b || list_any (of_operation F (is_open s)) sents) (false_by (is_open_in s F x) (λ k. absurd (h.0 k))) ∙ none_open sents h.1
-
   abbrev holder_by : Bool → Option Sending → Option ℕ
   holder_by b o = elim o [ None ↦ None | Some x ↦ if b && of_operation F (is_holding s) x then Some x.op.client else None ]
 
@@ -69,7 +64,7 @@ module _ (s : Settings) (F : Family) (u : ℕ) (kind : is_of_kind s BindKind u �
         let none : l.state.rows ≡ [] = no_rows l.state.rows (right (l.state.retired && not l.state.down) _ empty) in
         both (list_any (λ e. is_retired e.what) (entries before) && not (list_any (of_operation F (is_open s)) (sendings u (entries before)))) _
         (both (list_any (λ e. is_retired e.what) (entries before)) _ (sym h.says.retired ∙ left l.state.retired _ (left (l.state.retired && not l.state.down) _ empty))
-        (ap not (none_open (sendings u (entries before)) (subst (λ rows. Each (Rowed s F rows) (sendings u (entries before))) none h.rowed))))
+        (ap not (none_open s F (sendings u (entries before)) (subst (λ rows. Each (Rowed s F rows) (sendings u (entries before))) none h.rowed))))
         (ap is_none (no_holder (entries before) (h.unheld (free l.state.holder (right (l.state.retired && not l.state.down && length l.state.rows == 0) _ k)))))
       where
         free : (o : Option OpName) → is_none o ≡ true → o ≡ None

@@ -29,6 +29,7 @@ use Rattle.bind_laws.proofs.BindSays.{BindTells, nothing_told}
 use Rattle.carried_laws.specs.Laws.{Played}
 use Rattle.caused_laws.specs.Laws.{BindConnectionsSay}
 use Rattle.carried_laws.proofs.BindWalk.{fit_rest, next_tells}
+use Rattle.rows_laws.proofs.Known.{behind_more}
 use Rattle.carried_laws.proofs.TurnHeads.{Whats, begins_alone, event_whats, is_no_message}
 
 -- where a turn begins
@@ -65,10 +66,6 @@ list_push s p (y ∷ ys) x =
     folds : (q : ConnectionState) (L M : List Marked) → behind (step_connection s) q (L ++ M) ≡ behind (step_connection s) (behind (step_connection s) q L) M
     folds q [] M = refl
     folds q (m ∷ L) M = folds (step_connection s q m) L M
-
-behind_more : (s : Settings) (l : ConnectionLedger) (L M : List Marked) → behind (step_connection_ledger s) l (L ++ M) ≡ behind (step_connection_ledger s) (behind (step_connection_ledger s) l L) M
-behind_more s l [] M = refl
-behind_more s l (m ∷ L) M = behind_more s (step_connection_ledger s l m) L M
 
 module _ (s : Settings) (F : Family) (u : ℕ) (kind : is_of_kind s BindKind u ≡ true) where
   abbrev unmarked : PartName → ℕ → List What → List Marked

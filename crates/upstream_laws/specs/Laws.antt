@@ -47,8 +47,10 @@ abbrev pub is_end_caused : Settings → Family → ℕ → List Entry → Entry 
 is_end_caused s F u place e =
     where_there (λ why. same_why why Unfinished || has_down_cause s F u place e.at why) (down_why e.what)
 
--- each end of a connection has its cause, but for an exchange that its client left
+-- whether each end of a connection has its cause, but for an exchange that its client left
+abbrev pub each_end_caused : Settings → Family → Bool
+each_end_caused s F = list_all (λ u. each_entry (is_end_caused s F u) (F.connection u)) F.connections
+
 abbrev pub EndsAreCaused : Type 0
 EndsAreCaused =
-    (s : Settings) (F : Family) (marked : PartName → List Marked) → Played s F marked
-    → IsTrue (list_all (λ u. each_entry (is_end_caused s F u) (F.connection u)) F.connections)
+    (s : Settings) (F : Family) (marked : PartName → List Marked) → Played s F marked → IsTrue (each_end_caused s F)
