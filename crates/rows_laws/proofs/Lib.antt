@@ -1,0 +1,9 @@
+pub mod Somewhere
+pub mod Live
+pub mod Lives
+pub mod Steps
+pub mod OwnApart
+pub mod Walk
+pub mod Freed
+pub mod Known
+pub mod Regular

@@ -1,0 +1,13 @@
+mod Places
+mod Heads
+mod Ids
+mod Facts
+mod BadMessages
+mod LastAnswers
+mod Answered
+mod Expiries
+mod Downs
+mod Held
+mod BindDowns
+mod BindEnds
+mod Ends
