@@ -34,13 +34,14 @@ use Rattle.part_spec.specs.Marked.{Marked, entries}
 use Rattle.client_laws.proofs.ClientClauses.{Says, says_more, nothing_kept}
 use Rattle.client_laws.proofs.ClientGives.{in_state}
 use Rattle.client_laws.proofs.ClientTurns.{count_more}
+use Rattle.client_answer_laws.proofs.Asks.{going_makes}
 use Rattle.client_answer_laws.proofs.Each.{Each, each_both, each_found, each_imply}
 use Rattle.client_answer_laws.proofs.Known.{within_there}
 use Rattle.client_answer_laws.proofs.Rows.{rows_behind}
 use Rattle.client_answer_laws.proofs.Waits.{RowKnown, each_grows, fresh_number, named_each, rows_known}
 use Rattle.carried_laws.proofs.Letters.{PassesOthers, letters_pass}
 use Rattle.carried_laws.proofs.Stays.{Kept, operation_kept}
-use Rattle.caused_laws.proofs.Checks.{steps_push}
+use Rattle.identity_laws.proofs.Ins.{steps_push}
 
 each_last : {A : Type 0} (P : A → Type 0) (xs : List A) (y : A) → Each P (xs ++ y ∷ []) → P y
 each_last P [] y h = h.0
@@ -56,7 +57,7 @@ module _ (s : Settings) (F : Family) (c : ℕ) where
   are_carried_at place xs = list_all (λ x. is_carried_at place x.letter) xs
 
   others_carried : (place : List Entry) → PassesOthers (is_carried_at place)
-  others_carried place = record { ask = λ op want. refl; returned = λ op u. refl; drop = λ op. refl; leave = λ op. refl; pause = λ n. refl; resume = λ n. refl }
+  others_carried place = record { returned = λ op u. refl; drop = λ op. refl; leave = λ op. refl; pause = λ n. refl; resume = λ n. refl }
 
   carried_later : (L M : List Entry) (x : Letter) → is_carried_at L x ≡ true → is_carried_at (L ++ M) x ≡ true
   carried_later L M (Forward op kind rest ask holder) h = by (operation_in c L op) refl h
@@ -148,7 +149,7 @@ module _ (s : Settings) (F : Family) (c : ℕ) where
         new_known false j = each_last (RowKnown s c (place ++ m.entry ∷ [])) p.rows (new_row s p x) j
 
     pub letters_carried : are_carried_at (place ++ m.entry ∷ []) (client_letters s p m.entry.at m.entry.what) ≡ true
-    letters_carried = letters_pass s (is_carried_at (place ++ m.entry ∷ [])) (others_carried (place ++ m.entry ∷ [])) p Right (λ r kind holder k e. k kind holder e) m.entry.at m.entry.what (each_imply (λ r. RowKnown s c place r × RowCarries place r) Right p.rows old_right (each_both (RowKnown s c place) (RowCarries place) p.rows h.rows h.carry)) new_right
+    letters_carried = letters_pass s (is_carried_at (place ++ m.entry ∷ [])) (others_carried (place ++ m.entry ∷ [])) p Right (λ r kind holder k e. k kind holder e) m.entry.at m.entry.what (λ op a r e k. old_right r (each_found (λ x. RowKnown s c place x × RowCarries place x) (λ x. p.number == op.client && x.k == op.k) p.rows r k (each_both (RowKnown s c place) (RowCarries place) p.rows h.rows h.carry))) (λ x e goes. new_right x e (going_makes s p x goes)) (λ x e asks. refl)
 
   -- The walk over a list at whose messages the state's identity is the family's.
   module _ (list : List Marked) (known : (before : List Marked) (m : Marked) (ms : List Marked) → list ≡ before ++ m ∷ ms → is_some (in_message m.entry.what) ≡ true → (client_of s c before).identity ≡ identity s F c (entries before)) where

@@ -15,18 +15,14 @@ use Rattle.lload_spec.specs.Lists.{each_split_from, first_passes, passes, some_s
 use Rattle.lload_spec.specs.Settings.{Settings}
 use Rattle.lload_spec.proofs.Growth.{left, right, both}
 use Rattle.lload_laws.proofs.ListLaws.{all_always}
-use Rattle.part_spec.specs.ClientState.{ClientState, empty_client, step_client, step_clients, client_of, check_at}
+use Rattle.part_spec.specs.ClientState.{ClientState, empty_client, step_client, client_of, check_at}
 use Rattle.part_spec.specs.Marked.{Marked, entries}
 use Rattle.part_spec.specs.Share.{ClientShare, check_in, each_place, is_checked as is_checked_by_list, is_gone_caused as is_gone_by_list}
 use Rattle.carried_laws.specs.Laws.{Played}
+use Rattle.identity_laws.proofs.Ins.{steps_push}
 use Rattle.identity_laws.specs.Laws.{ClientsAreKnown}
 use Rattle.identity_laws.proofs.Checks.{take_before}
 use Rattle.caused_laws.specs.Laws.{CausedByChecks}
-
--- the state behind one entry more
-pub steps_push : (s : Settings) (p : ClientState) (L : List Marked) (m : Marked) → step_clients s p (L ++ m ∷ []) ≡ step_client s (step_clients s p L) m
-steps_push s p [] m = refl
-steps_push s p (x ∷ L) m = steps_push s (step_client s p x) L m
 
 module _ (known : ClientsAreKnown) (s : Settings) (F : Family) (marked : PartName → List Marked) (h : Played s F marked) (c : ℕ) where
   share : ClientShare s c (marked (Client c))

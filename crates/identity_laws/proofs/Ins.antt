@@ -19,7 +19,7 @@ use Rattle.lload_spec.specs.Lists.{where_there}
 use Rattle.lload_spec.specs.Settings.{Settings}
 use Rattle.lload_spec.proofs.Growth.{left, right}
 use Rattle.part_laws.specs.Turns.{Event, made}
-use Rattle.part_spec.specs.ClientState.{ClientState, step_client, client_of, facts_of, check_at, is_present, row_named}
+use Rattle.part_spec.specs.ClientState.{ClientState, step_client, step_clients, client_of, facts_of, check_at, is_present, row_named}
 use Rattle.part_spec.specs.ClientTurn.{whats_by, whats_for, noticed, refused}
 use Rattle.part_spec.specs.Fit.{ledger_behind as behind}
 use Rattle.part_spec.specs.Inputs.{entries_of}
@@ -32,6 +32,11 @@ use Rattle.client_share_laws.proofs.ClientKept.{kept_always}
 use Rattle.client_share_laws.proofs.Whats.{refused_all, canceled_all, choice_all}
 use Rattle.carried_laws.specs.Laws.{are_identities_right, is_identity_right}
 use Rattle.identity_laws.proofs.BoundCases.{Knows, knows_more, nothing_known, facts_by}
+
+-- the state behind an entry more
+pub steps_push : (s : Settings) (p : ClientState) (ms : List Marked) (m : Marked) → step_clients s p (ms ++ m ∷ []) ≡ step_client s (step_clients s p ms) m
+steps_push s p [] m = refl
+steps_push s p (x ∷ ms) m = steps_push s (step_client s p x) ms m
 
 -- what is known where a message comes
 abbrev pub Ins : (List Marked → Type 0) → List Marked → List Marked → Type 0

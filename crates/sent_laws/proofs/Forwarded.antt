@@ -24,7 +24,7 @@ use Rattle.lload_spec.specs.Strict.{is_to_ask}
 use Rattle.lload_spec.proofs.Growth.{left, right, both}
 use Rattle.lload_laws.proofs.ListLaws.{found_passes, passes_imply}
 use Rattle.part_laws.proofs.ListLaws.{any_split, same_number, same_op_eq}
-use Rattle.part_spec.specs.ClientState.{ClientState, check_at, client_of, empty_client, facts_of, name_of, step_client, step_clients}
+use Rattle.part_spec.specs.ClientState.{ClientState, check_at, client_of, empty_client, facts_of, name_of, step_client}
 use Rattle.part_spec.specs.Fit.{ClientLedger, are_fit_from, empty_client_ledger, fits_client, is_unfit, step_client_ledger}
 use Rattle.part_spec.specs.Gives.{client_gives, client_letters}
 use Rattle.part_spec.specs.Marked.{Marked, entries}
@@ -35,11 +35,8 @@ use Rattle.joined_laws.proofs.Begun.{is_begun}
 use Rattle.joined_laws.proofs.Walks.{Begun}
 use Rattle.forward_laws.proofs.Causes.{Pinned, WasChosen, is_sent_there, letters_hit}
 use Rattle.forward_laws.proofs.Ops.{new_found}
+use Rattle.identity_laws.proofs.Ins.{steps_push}
 use Rattle.sent_laws.proofs.Walk.{At, ChosenSo, at_more, chosen_so, is_to_ask_for, passes_later, was_to_ask}
-
-steps_push : (s : Settings) (p : ClientState) (ms : List Marked) (m : Marked) → step_clients s p (ms ++ m ∷ []) ≡ step_client s (step_clients s p ms) m
-steps_push s p [] m = refl
-steps_push s p (x ∷ ms) m = steps_push s (step_client s p x) ms m
 
 grown : (before : List Marked) (m : Marked) → entries (before ++ m ∷ []) ≡ entries before ++ m.entry ∷ []
 grown before m = map-append (λ (x : Marked). x.entry) before (m ∷ [])

@@ -33,7 +33,7 @@ use Rattle.lload_laws.specs.ClientGrowth.{new_operation}
 use Rattle.lload_laws.proofs.ListLaws.{all_imply, passes_imply}
 use Rattle.part_laws.proofs.ListLaws.{eq_eqb, same_number, same_op_eq}
 use Rattle.part_laws.proofs.Same.{same_want_refl}
-use Rattle.part_spec.specs.ClientState.{ClientState, check_at, client_of, empty_client, facts_of, name_of, new_row, step_client, step_clients, want_for}
+use Rattle.part_spec.specs.ClientState.{ClientState, check_at, client_of, empty_client, facts_of, name_of, new_row, step_client, want_for}
 use Rattle.part_spec.specs.Fit.{DeskLedger, are_fit_from, empty_desk_ledger, fits_desk, is_unfit, step_desk_ledger}
 use Rattle.part_spec.specs.Gives.{client_gives, client_letters, gives}
 use Rattle.part_spec.specs.Laws.{FitIsWhole}
@@ -48,7 +48,7 @@ use Rattle.forward_laws.proofs.Ops.{new_found}
 use Rattle.carried_laws.specs.Laws.{Played}
 use Rattle.carried_laws.proofs.Letters.{PassesOthers, letters_pass}
 use Rattle.carried_laws.proofs.Stays.{Kept, operation_kept}
-use Rattle.identity_laws.proofs.Ins.{Ins}
+use Rattle.identity_laws.proofs.Ins.{Ins, steps_push}
 use Rattle.identity_laws.specs.Laws.{ClientsAreKnown}
 use Rattle.window_laws.specs.Laws.{AsksRightly, OfAsks}
 use Rattle.window_laws.proofs.Standing.{StandsAt, ins_stand}
@@ -62,10 +62,6 @@ is_ask_right s F c place _ = true
 
 others_right : (s : Settings) (F : Family) (c : ℕ) (place : List Entry) → PassesOthers (is_ask_right s F c place)
 others_right s F c place = record { returned = λ op u. refl; drop = λ op. refl; leave = λ op. refl; pause = λ n. refl; resume = λ n. refl }
-
-steps_push : (s : Settings) (p : ClientState) (ms : List Marked) (m : Marked) → step_clients s p (ms ++ m ∷ []) ≡ step_client s (step_clients s p ms) m
-steps_push s p [] m = refl
-steps_push s p (x ∷ ms) m = steps_push s (step_client s p x) ms m
 
 -- What is known of a client behind each list, fit or not.
 record At (c : ℕ) (place : List Entry) (p : ClientState) : Type 0 where
