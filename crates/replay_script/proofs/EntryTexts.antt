@@ -1,5 +1,5 @@
 -- What was written of an entry is read as this entry.
-use Rattle.std.proofs.Common.{◌≡◌, ℕ, ◌^◌, ◌<◌, Bool, true, false, cond, List, [], ◌∷◌, ◌++◌, refl, ap, sym, ◌∙◌, append_assoc, append-nil}
+use Rattle.std.proofs.Common.{◌≡◌, ℕ, ◌^◌, ◌<◌, Bool, true, false, cond, List, [], ◌∷◌, ◌++◌, refl, ap, subst, sym, ◌∙◌, append_assoc, append-nil}
 use Rattle.std.specs.Prelude.{Option, Some, None, codes, IsTrue}
 use Rattle.std.specs.Fmt.{decimal}
 use Rattle.std.specs.Option.{option_map, option_and_then}
@@ -17,7 +17,7 @@ use Rattle.lload_spec.specs.Entries.{is_news}
 use Rattle.lload_spec.specs.Transcript.{answer_text, bound_text, entry_text, kind_text, latency_text, letter_text, message_text, op_text, part_text, what_text}
 use Rattle.lload_spec.specs.Writable.{can_be_spelled, can_be_written}
 use Rattle.replay_script.specs.EntryFields.{entry_by, event_by, fields_by, first_by, head_of, letter_of, line_words, message_in, op_and_conn}
-use Rattle.replay_script.specs.EntryLines.{own_line, HasLine, HasMessage, HoldsEntry, HoldsLetter, HoldsOp, HoldsWhat, IsSpelled, ReadIsWritten, WrittenIsRead}
+use Rattle.replay_script.specs.EntryLines.{entry_of, own_line, HasLine, HasMessage, HoldsEntry, HoldsLetter, HoldsOp, HoldsWhat, IsSpelled, NoneHasTheLine, ReadIsWritten, WrittenIsRead}
 use Rattle.replay_script.proofs.FieldTexts.{Follows, at_end, before_more, answer-text, first_by-text, first_long-text, latency-text, next_long-text, op-text, part-text, short-text, want-text, why-text}
 use Rattle.replay_script.proofs.MessageTexts.{message_in-text, message_without_space}
 use Rattle.replay_script.proofs.WordTexts.{front-line}
@@ -123,3 +123,8 @@ read_is_written line e found = at (fields_by message_in line) found where
   at : (fields : Option Entry) → option_and_then (own_line line) fields ≡ Some e → entry_text e ≡ line
   at None found = absurd (cc)
   at (Some read) found = own read found
+
+pub none_has_the_line : NoneHasTheLine
+none_has_the_line line e none holds has same =
+    let found : entry_of line ≡ Some e = subst (λ (l : List ℕ). entry_of l ≡ Some e) same (written_is_read e holds has) in
+    cc (sym none ∙ found)

@@ -171,7 +171,7 @@ asked_of (op, ws) = option_map (λ want. Asked op want) (want_of ws)
 abbrev pub replanned_of : ℕ × List (List ℕ) → Option What
 replanned_of (plan, ws) = option_map (λ base. Replanned plan base.0) (behind (codes "base") next_short ws)
 
--- what happened, by its first word and the others: at the desk, and between it and a client
+-- what happened at the desk, or between it and a client, by the first word and those behind it
 abbrev pub desk_event : List ℕ → List (List ℕ) → Option What
 desk_event w ws =
     if bytes_eq w (codes "chosen") then option_map (λ c. Chosen c.0 c.1) (op_and_answer ws)
@@ -181,7 +181,7 @@ desk_event w ws =
     else if bytes_eq w (codes "replanned") then option_and_then replanned_of (next_short ws)
     else None
 
--- to an operation, to a part, or to a client's connection
+-- what happened to an operation or to a part, or between a client and a connection
 abbrev pub end_event : List ℕ → List (List ℕ) → Option What
 end_event w ws =
     if bytes_eq w (codes "late") then option_map (λ op. Late op.0) (next_op ws)
@@ -194,7 +194,7 @@ end_event w ws =
     else if bytes_eq w (codes "resumed") then option_map (λ n. Resumed n.0) (next_short ws)
     else desk_event w ws
 
--- by a word alone
+-- what happened by a word alone, or by one of those
 abbrev pub plain_event : List ℕ → List (List ℕ) → Option What
 plain_event w ws =
     if bytes_eq w (codes "arrived") then Some Arrived
@@ -205,10 +205,11 @@ plain_event w ws =
     else if bytes_eq w (codes "retired") then Some Retired
     else end_event w ws
 
--- by a message, of which a reader tells the identifier and the rest
+-- an operation and the message that was sent for it, by a reader of messages
 abbrev pub sent_of : (List ℕ → Option Message) → OpName × List (List ℕ) → Option What
 sent_of reader (op, ws) = option_map (λ m. Sent m.id op m.rest) (first_by reader ws)
 
+-- what happened, by a reader of messages
 abbrev pub event_by : (List ℕ → Option Message) → List (List ℕ) → Option What
 event_by reader [] = None
 event_by reader (w ∷ ws) =

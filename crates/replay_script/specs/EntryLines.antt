@@ -1,5 +1,5 @@
 -- Which entry a line of a journal is (this project's own), and the entries that have a line.
-use Rattle.std.specs.Prelude.{◌≡◌, ℕ, ◌^◌, ◌<◌, if◌then◌else◌, List, Option, Some, None, IsTrue}
+use Rattle.std.specs.Prelude.{◌≡◌, ◌≢◌, ℕ, ◌^◌, ◌<◌, if◌then◌else◌, List, Option, Some, None, IsTrue}
 use Rattle.std.specs.Option.{option_and_then}
 use Rattle.std.specs.Str.{bytes_eq}
 use Rattle.ldap_spec.specs.Laws.{AreOctets}
@@ -106,3 +106,7 @@ WrittenIsRead = (e : Entry) → HoldsEntry e → HasLine e → entry_of (entry_t
 -- what is read of a line is written as this line
 abbrev pub ReadIsWritten : Type 0
 ReadIsWritten = (line : List ℕ) (e : Entry) → entry_of line ≡ Some e → entry_text e ≡ line
+
+-- where no entry is read of a line, no entry has it
+abbrev pub NoneHasTheLine : Type 0
+NoneHasTheLine = (line : List ℕ) (e : Entry) → entry_of line ≡ None → HoldsEntry e → HasLine e → entry_text e ≢ line

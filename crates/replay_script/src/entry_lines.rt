@@ -1,7 +1,7 @@
 ghost use Rattle.std.specs.Prelude.{◌≡◌, IfOk, IsSome, MatchOption, Some, None, Err};
 ghost use Rattle.lload_spec.specs.Writable.{can_be_spelled as is_spellable};
 ghost use Rattle.replay_script.specs.EntryFields.{fields_by, head_of, octets_in};
-ghost use Rattle.replay_script.specs.EntryLines.{entry_of, HasLine, ReadIsWritten, WrittenIsRead};
+ghost use Rattle.replay_script.specs.EntryLines.{entry_of, HasLine, NoneHasTheLine, ReadIsWritten, WrittenIsRead};
 ghost use Rattle.replay_script.specs.EntryReading.{ReadsMessage, ReadsWhat, ReadsSent, ReadsFields};
 
 use crate::entry::entry_line;
@@ -32,11 +32,12 @@ pub fn read_entry(alloc: Global, bytes: &[u8]) -> Result<Entry, LineFault>
     }
 }
 
-/// What was written of an entry is read as this entry, so no two entries have the same line; and what is read of a line is
-/// written as this line.
+/// What was written of an entry is read as this entry, so no two entries have the same line; what is read of a line is
+/// written as this line; and where nothing is read, no entry has the line.
 pub fn entries_are_read()
     ensures written { WrittenIsRead }
     ensures read { ReadIsWritten }
+    ensures none { NoneHasTheLine }
 {}
 
 /// Reads the fields of a line, each at its place.
