@@ -2,3 +2,9 @@ pub mod Spaces
 pub mod Digits
 pub mod HexWords
 pub mod Making
+pub mod NumberTexts
+pub mod WordTexts
+pub mod MessageTexts
+pub mod FieldTexts
+pub mod EntryTexts
+pub mod Keys

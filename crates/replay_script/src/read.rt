@@ -12,12 +12,12 @@ use crate::words::Words;
 use lload_names::{Body, Command, PartName};
 use std::alloc::Global;
 
-/// Why a line gives no command.
+/// Why a line gives no command or no entry.
 #[derive(Clone, Copy, Debug, PartialEq, Eq, Drop)]
 pub enum LineFault {
-    /// The line isn't in the grammar of scripts.
+    /// The line isn't in the grammar of scripts, or is no entry's.
     NotACommand,
-    /// There was no memory for the command.
+    /// There was no memory for the command, or for the entry.
     NoMemory,
 }
 
@@ -134,7 +134,7 @@ fn read_bytes(alloc: Global, verb: &[u8], text: &[u8], mut words: Words) -> Resu
 }
 
 /// Reads the bytes that a word says in hexadecimal.
-fn read_hex(alloc: Global, text: &[u8]) -> Result<Body, LineFault>
+pub(crate) fn read_hex(alloc: Global, text: &[u8]) -> Result<Body, LineFault>
     ensures { Reads result (bytes_of text.now) }
 {
     if !is_hex(text) {
@@ -250,7 +250,7 @@ fn read_alone(command: Command, mut words: Words) -> Option<Command>
 }
 
 /// Whether a word is this one.
-fn is(word: &[u8], text: &str) -> bool
+pub(crate) fn is(word: &[u8], text: &str) -> bool
     ensures { result ≡ bytes_eq word.now text.now }
 {
     word == text.as_bytes()
