@@ -19,7 +19,7 @@ mod words;
 pub use joining::First;
 pub use lines::{LineReader, NextLine};
 pub use lload_names::Word;
-pub use physical::{cut_line, is_continuation, line_count};
+pub use physical::line_count;
 pub use words::Words;
 
 #[cfg(test)]

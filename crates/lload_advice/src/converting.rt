@@ -3,7 +3,6 @@ ghost use Rattle.lload_conf.specs.Configuration.{configuration};
 ghost use Rattle.lload_advice.specs.Converting.{IsCommented, IsLead, IsPiece, IsTaken};
 
 use crate::advice::Advice;
-use conf_words::{cut_line, is_continuation};
 use lload_conf::{ConfFault, read};
 use lload_names::{Body, NoMemory};
 use std::alloc::Global;
@@ -119,12 +118,9 @@ impl Marking<'_> {
     }
 }
 
-/// Whether a physical line with its end continues the one before it.
+/// Whether a physical line with its end goes on with the one before it: it begins with a space or a tab, and isn't blank.
 fn goes_on(piece: &[u8]) -> bool {
-    match cut_line(piece) {
-        Some((line, _)) => is_continuation(line),
-        None => false,
-    }
+    matches!(piece, [b' ' | b'\t', ..]) && !piece.iter().all(|byte| byte.is_ascii_whitespace())
 }
 
 /// What stands before the first physical line of a line with this advice.

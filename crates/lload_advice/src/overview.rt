@@ -92,12 +92,12 @@ impl Row {
     }
 
     /// The line above the rows.
-    pub const HEAD: &'static str =
+    pub(crate) const HEAD: &'static str =
         "tier  type        backend  address                places    regular  bind  weight\n";
 
     /// Writes its line behind a text: the tier, its type, and of a backend its number, its address, its places, how many of
     /// these are regular and how many for Binds, and its weight.
-    pub fn write_line(&self, alloc: Global, out: &mut String) -> Result<(), NoMemory> {
+    pub(crate) fn write_line(&self, alloc: Global, out: &mut String) -> Result<(), NoMemory> {
         write!(out, "{:<4}  {:<10}", self.tier, kind_name(self.kind))?;
         match self.backend {
             Some(backend) => self.write_backend(alloc, backend, out)?,
