@@ -1,5 +1,4 @@
-ghost use Rattle.std.specs.Prelude.{◌≡◌, ◌≤◌, ◌++◌, ◌<◌, [], length, true, IfOk, IsOk, MatchOption, string_bytes};
-ghost use Rattle.lload_conf.specs.Configuration.{configuration};
+ghost use Rattle.std.specs.Prelude.{◌≡◌, [], true, IfOk, MatchOption, string_bytes};
 ghost use Rattle.lload_advice.specs.Converting.{IsCommented, IsLead, IsPiece, IsTaken};
 
 use crate::advice::Advice;

@@ -1,9 +1,8 @@
 ghost use Rattle.std.specs.Prelude.{◌≡◌, ◌≤◌, ◌++◌, length, map, true, IfOk, string_bytes};
 ghost use Rattle.std.specs.List.{list_all};
 ghost use Rattle.conf_words.specs.Lines.{conf_lines};
-ghost use Rattle.conf_words.specs.Locating.{line_of_word};
 ghost use Rattle.lload_conf.specs.FaultyWord.{physical_of};
-ghost use Rattle.lload_advice.specs.Notes.{is_noted, is_noted_directive, noted, noted_arguments, noted_in, noted_of, numbered};
+ghost use Rattle.lload_advice.specs.Notes.{is_noted, is_noted_directive, noted, noted_in, noted_of, numbered};
 ghost use Rattle.lload_advice.specs.Shown.{is_shown};
 ghost use Rattle.lload_advice.specs.Texts.{note_text};
 

@@ -1,4 +1,4 @@
-ghost use Rattle.std.specs.Prelude.{◌≡◌, ◌≤◌, ◌++◌, length, true, false, IfOk, string_bytes};
+ghost use Rattle.std.specs.Prelude.{◌≡◌, ◌≤◌, length, true, false, IfOk, string_bytes};
 ghost use Rattle.lload_conf.specs.Answers.{IsConfig};
 ghost use Rattle.lload_conf.specs.Configuration.{configuration};
 ghost use Rattle.lload_advice.specs.Converting.{IsCommented, IsTaken};

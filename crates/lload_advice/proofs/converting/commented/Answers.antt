@@ -1,4 +1,4 @@
-use Rattle.std.proofs.Common.{[], ◌++◌, string_bytes, subst, sym}
+use Rattle.std.proofs.Common.{[], ◌++◌, subst, sym}
 use Rattle.lload_advice.specs.Converting.{IsCommented, IsLead}
 use Rattle.lload_advice.proofs.Comments.{way-begins, way-ends, way-next}
 use Rattle.lload_advice.proofs.converting.commented.Goals as goal

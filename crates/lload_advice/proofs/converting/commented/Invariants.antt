@@ -1,5 +1,4 @@
-use Rattle.std.proofs.Common.{◌≡◌, ◌++◌, List, ℕ, length}
-use Rattle.lload_advice.specs.Converting.{EndsLine, IsCommented}
+use Rattle.std.proofs.Common.{List, ℕ, length}
 use Rattle.lload_advice.proofs.Comments.{IsUnderWay}
 use Rattle.lload_advice.proofs.converting.commented.Given as goal
 
