@@ -1,10 +1,13 @@
-//! A table of configuration texts and what they come to, which stands in the file `stdin`: each text is read, and a row
-//! whose answer isn't that of the table is printed. The last line counts the rows, and those that differ.
+//! A table of configuration texts and what they come to, which stands in the file `stdin`: each text is read, advised on or
+//! converted, and a row whose answer isn't that of the table is printed. The last line counts the rows, and those that
+//! differ.
 #![tactic(auto)]
 
+mod advised;
 mod answer;
 mod row;
 
+use crate::advised::{advice_on, conversion_of};
 use crate::answer::answer_to;
 use crate::row::decoded;
 use anyhow::{Context, Result};
@@ -14,13 +17,19 @@ use std::io::{BufRead, BufReader};
 /// What a row's text comes to, where that isn't the row's answer.
 fn difference(alloc: Global, row: &str) -> Result<Option<String>> {
     let (answer, text) = row.split_once('|').context("a row without a bar")?;
-    let wanted = decoded(alloc, answer.trim_end_matches(' '))?;
-    let given = answer_to(alloc, decoded(alloc, text)?.as_slice())?;
-    Ok(if given.as_bytes() == wanted.as_slice() {
-        None
+    let answer = answer.trim_end_matches(' ');
+    let text = decoded(alloc, text)?;
+    let (wanted, given) = if let Some(advice) = answer.strip_prefix("advice ") {
+        (advice, advice_on(alloc, text.as_slice())?)
+    } else if let Some(conversion) = answer.strip_prefix("convert ") {
+        (conversion, conversion_of(alloc, text.as_slice())?)
     } else {
-        Some(given)
-    })
+        (answer, answer_to(alloc, text.as_slice())?.into_bytes())
+    };
+    if given.as_slice() == decoded(alloc, wanted)?.as_slice() {
+        return Ok(None);
+    }
+    Ok(Some(String::from_utf8_lossy(alloc, given.as_slice())?))
 }
 
 fn main(rt: HostRuntime) -> Result<()> {
