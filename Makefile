@@ -1,8 +1,8 @@
 # `make run` builds the program and runs its main job; `make check CONF=FILE` checks a configuration, `make advise
-# CONF=FILE` says what is wrong with each of its lines; `make test` is the whole gate; `make bench` measures; `make man` shows
-# the manual pages. `make program` builds the programs, and `make install PREFIX=.. DESTDIR=..` lays them down with the manual
-# pages and the samples; `make uninstall` takes them away.
-.PHONY: run check advise test bench man program install uninstall
+# CONF=FILE` says what is wrong with each of its lines; `make test` is the whole gate; `make bench` measures, and `make
+# bench-edge` the sockets beside haproxy; `make man` shows the manual pages. `make program` builds the programs, and `make
+# install PREFIX=.. DESTDIR=..` lays them down with the manual pages and the samples; `make uninstall` takes them away.
+.PHONY: run check advise test bench bench-edge man program install uninstall
 
 CONF = examples/lloadd.conf
 PREFIX = /usr/local
@@ -40,6 +40,11 @@ bench:
 	@cd crates/script_bench && rt run -- measure
 	@cd crates/conf_bench && rt run -- measure
 	@cd crates/controls_bench && rt run -- measure
+
+# The toolchain builds the forwarder by running it, which without words ends at once.
+bench-edge:
+	@cd crates/edge_bench && rt run
+	@bench/bench-edge
 
 man:
 	@man -l man/lloadd.8

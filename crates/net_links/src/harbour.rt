@@ -77,6 +77,15 @@ fn socket_address(at: Address) -> SocketAddr {
     SocketAddr::from((Ipv4Addr::new(a, b, c, d), at.port))
 }
 
+/// Begins to connect to an address. One that is refused at once, as on the loopback, is told here; else its link tells.
+fn begin_connect<R: Net>(rt: &R, to: Address) -> io::Result<TcpStream> {
+    let stream = TcpStream::connect(rt, socket_address(to))?;
+    match stream.take_error()? {
+        Some(refused) => Err(refused),
+        None => Ok(stream),
+    }
+}
+
 impl<'a, R: Net> Harbour for TcpHarbour<'a, R> {
     type L = TcpLink;
 
@@ -127,7 +136,7 @@ impl<'a, R: Net> Harbour for TcpHarbour<'a, R> {
     }
 
     fn connect(&mut self, to: Address) -> Connect<TcpLink> {
-        match TcpStream::connect(self.rt, socket_address(to)) {
+        match begin_connect(self.rt, to) {
             Ok(stream) => {
                 let _ = stream.set_nodelay(true);
                 Connect::Made(TcpLink::new(stream, Origin::Connected))

@@ -140,3 +140,22 @@ fn a_connection_that_is_refused_fails_when_it_is_used(rt: HostRuntime) -> Result
     }
     Ok(())
 }
+
+#[test]
+fn a_link_that_is_reset_fails(rt: HostRuntime) -> Result<(), Fail> {
+    let alloc = rt.alloc();
+    let mut harbour = TcpHarbour::new(&rt, alloc);
+    let port = listening(&mut harbour).ok_or("no free port")?;
+    let mut server = connected(&mut harbour, port).ok_or("no connection")?;
+    let client = accepted(&mut harbour).ok_or("no client")?;
+    let Made::Both { mut poller, watch } = harbour.poller(alloc, 4) else {
+        return Err(Fail::from("no poller"));
+    };
+    assert_eq!(rt; watch.watch(&mut server, 7), Watched::Done);
+    assert_eq!(rt; sent(&mut poller, &mut server, b"there"), LinkWrite::Put(5));
+    // A connection that is dropped with bytes unread is reset.
+    harbour.back(client);
+    let mut buf = [0u8; 8];
+    assert_eq!(rt; got(&mut poller, &mut server, &mut buf), LinkRead::Failed);
+    Ok(())
+}

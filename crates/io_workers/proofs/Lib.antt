@@ -1,0 +1,4 @@
+pub mod Sides
+pub mod Forks
+pub mod Numbers
+pub mod Waits

@@ -1,0 +1,4 @@
+pub mod Configured
+pub mod Places
+pub mod Tree
+pub mod TreeFalls
