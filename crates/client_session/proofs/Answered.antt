@@ -118,6 +118,7 @@ same-asks s q p d e h = record {
   stalled = h.stalled;
   paused = h.paused;
   idle = h.idle;
+  room = h.room;
 }
 
 one-shown : (s : Settings) (xs : List ClientRow) (v : Seen) → map (seen s) xs ≡ v ∷ [] → (r : ClientRow) × (xs ≡ r ∷ []) × (seen s r ≡ v)

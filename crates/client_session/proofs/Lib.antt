@@ -4,3 +4,13 @@ pub mod Windows
 pub mod Views
 pub mod Ends
 pub mod Answered
+pub mod Asking
+pub mod Sending
+pub mod Rules
+pub mod Chosen
+pub mod Closings
+pub mod Flows
+pub mod Ended
+pub mod Paused
+pub mod Counted
+pub mod Leaves

@@ -1,2 +1,9 @@
+pub mod Kept
 pub mod Checks
 pub mod Stands
+pub mod Did
+pub mod Closing
+pub mod Fit
+pub mod Choices
+pub mod Ended
+pub mod Flow

@@ -8,6 +8,12 @@
 
 mod answers;
 mod check;
+mod choices;
+mod closing;
+mod ending;
+mod flow;
+mod kept;
+mod leaving;
 mod part;
 mod settings;
 #[cfg(test)]

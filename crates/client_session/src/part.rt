@@ -6,6 +6,7 @@ ghost use Rattle.client_session.specs.Checks.{Agrees};
 ghost use Rattle.lload_names.specs.declared.inputs.Input.TheVariants as Input;
 ghost use Rattle.client_session.specs.Stands.{Stands, behind, is_empty};
 
+use crate::kept::Kept;
 use crate::settings::ClientSettings;
 use client_rows::Operations;
 use coherence::Window;
@@ -40,6 +41,7 @@ pub struct ClientPart {
     pub(crate) stalled: bool,
     /// The connections that it pauses.
     pub(crate) paused: BTreeSet<u32>,
+    pub(crate) kept: Kept,
 }
 
 impl ClientPart {
@@ -62,6 +64,7 @@ impl ClientPart {
             settings,
             stalled: false,
             paused: BTreeSet::new(alloc),
+            kept: Kept::new(alloc),
         }
     }
 
@@ -99,6 +102,8 @@ impl ClientPart {
             return Ok(());
         }
         out.reserve(1, 0)?;
+        let letters = self.most_endings();
+        self.kept.reserve(letters, self.paused.len())?;
         let at = self.moment.max(now);
         out.entries.put(Entry {
             part: PartName::Client(self.number),
