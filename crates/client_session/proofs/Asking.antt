@@ -80,7 +80,7 @@ stands-chosen s at op p d e h = record {
 nat-more : (k c : ℕ) → nat_le k c ≡ true → nat_le k (suc c) ≡ true
 nat-more k c e = grind (arith, nat_tests, e)
 
-own-more : (n c : ℕ) (asked : List AskedFor) → list_all (λ a. a.op.client == n && nat_le a.op.k c) asked ≡ true → list_all (λ a. a.op.client == n && nat_le a.op.k (suc c)) asked ≡ true
+pub own-more : (n c : ℕ) (asked : List AskedFor) → list_all (λ a. a.op.client == n && nat_le a.op.k c) asked ≡ true → list_all (λ a. a.op.client == n && nat_le a.op.k (suc c)) asked ≡ true
 own-more n c [] e = refl
 own-more n c (a ∷ asked) e = by (a.op.client == n) (nat_le a.op.k c) refl e (own-more n c asked)
   where

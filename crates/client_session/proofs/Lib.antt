@@ -14,3 +14,8 @@ pub mod Ended
 pub mod Paused
 pub mod Counted
 pub mod Leaves
+pub mod Under
+pub mod Passed
+pub mod Answering
+pub mod Begun
+pub mod Cancelled

@@ -7,3 +7,4 @@ pub mod Fit
 pub mod Choices
 pub mod Ended
 pub mod Flow
+pub mod Under

@@ -13,7 +13,7 @@ ghost use Rattle.part_spec.specs.Marked.{Taken};
 ghost use Rattle.lload_names.specs.declared.names.PartName.{PartName};
 ghost use Rattle.lload_names.specs.declared.inputs.Input.TheVariants as Input;
 ghost use Rattle.lload_names.specs.declared.names.Letter.TheVariants as Letter;
-ghost use Rattle.client_rows.specs.Rows.{has_number, has_id};
+ghost use Rattle.client_rows.specs.Rows.{has_number, has_id, IsNumbered};
 ghost use Rattle.client_session.specs.Stands.{Stands, IsToldOnly, behind, seen, shown, simple_who, written, identity_by};
 
 use crate::part::ClientPart;
@@ -138,6 +138,8 @@ impl ClientPart {
     pub(crate) fn end(&mut self, k: u64, at: u64) -> Option<Row>
         ensures row { result ≡ find (has_number k) self.old.operations.rows }
         ensures number { self.new.number ≡ self.old.number }
+        ensures numbered { IsNumbered self.old.operations }
+        ensures count { self.new.operations.count ≡ self.old.operations.count }
         ensures state { OnSome result ((s : Settings) (p : ClientState) → Stands s p self.old → Stands s (without (λ x. x.k == k) at p) self.new) }
     {
         let row = self.operations.take(k)?;

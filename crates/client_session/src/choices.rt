@@ -153,7 +153,7 @@ impl ClientPart {
 
     /// Whether the identity behind a success of an operation is asked for: it is a Bind that isn't simple, with proxied
     /// authorization on (RFC 4532).
-    fn asks_who(&self, row: &Row) -> bool
+    pub(crate) fn asks_who(&self, row: &Row) -> bool
         ensures { result ≡ (self.now.settings.proxyauthz && is_bind row.now && is_none row.now.who) }
     {
         self.settings.proxyauthz && row.is_bind() && row.who.is_none()

@@ -6,7 +6,10 @@
 //! state; for want of memory nothing changes. Each call costs the logarithm of the live operations at most.
 #![tactic(auto)]
 
+mod abandons;
 mod answers;
+mod at_once;
+mod cancels;
 mod check;
 mod choices;
 mod closing;
