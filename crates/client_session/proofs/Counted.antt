@@ -67,3 +67,23 @@ forgets s p d h = record {
 
 pub counted-bind : (s : Settings) (m : Message) (p : ClientState) (d : ClientPart) (o : Counted) → makes_operation m ≡ true → is_request_of Bind m ≡ true → o ≡ record { count = d.operations.count + 1; rows = d.operations.rows } → Stands s p d → Stands s (counted m p) (record d { operations = o; identity = []; in_exchange = false })
 counted-bind s m p d o e f is h = subst (λ (q : ClientState). Stands s q (record d { operations = o; identity = []; in_exchange = false })) (sym (ap (λ b. counted_by p b (is_request_of Bind m)) e ∙ ap (counted_by p true) f)) (forgets s (record p { count = suc p.count }) (record d { operations = o }) (stands-passed s p d o is h))
+
+-- more room is kept
+pub grown : (s : Settings) (p : ClientState) (d : ClientPart) (kept : ℕ) → d.kept ≤ kept → Stands s p d → Stands s p (record d { kept = kept })
+grown s p d kept more h = record {
+  settings = h.settings;
+  number = h.number;
+  moment = h.moment;
+  arrived = h.arrived;
+  gone = h.gone;
+  live = h.live;
+  asks = h.asks;
+  identity = h.identity;
+  in_exchange = h.in_exchange;
+  hold = h.hold;
+  binds = h.binds;
+  stalled = h.stalled;
+  paused = h.paused;
+  idle = h.idle;
+  room = λ there stays. let old = h.room there stays in omega (arith, old, more);
+}

@@ -19,3 +19,9 @@ pub mod Passed
 pub mod Answering
 pub mod Begun
 pub mod Cancelled
+pub mod Went
+pub mod Ignored
+pub mod Anew
+pub mod Taken
+pub mod Turns
+pub mod Within

@@ -8,3 +8,5 @@ pub mod Choices
 pub mod Ended
 pub mod Flow
 pub mod Under
+pub mod GoesOn
+pub mod Most

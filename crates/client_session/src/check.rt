@@ -145,7 +145,7 @@ impl ClientPart {
     }
 
     /// Whether the identifier is one of a live operation.
-    fn is_in_use(&self, id: u32) -> bool
+    pub(crate) fn is_in_use(&self, id: u32) -> bool
         ensures { result ≡ is_in_use_by (facts self.now) id }
     {
         self.operations.under(id).is_some()

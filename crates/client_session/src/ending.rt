@@ -1,9 +1,12 @@
-ghost use Rattle.std.specs.Prelude.{◌≡◌, ◌≤◌, ◌<◌, ◌&&◌, ◌++◌, ◌∷◌, not, max, true, false, []};
+ghost use Rattle.std.specs.Prelude.{◌≡◌, ◌≤◌, ◌<◌, ◌&&◌, ◌++◌, ◌∷◌, not, max, true, false, [], ℕ};
 ghost use Rattle.lload_names.specs.declared.names.PartName.TheVariants.{Client};
 ghost use Rattle.lload_names.specs.declared.names.What.TheVariants.{Gone};
 ghost use Rattle.lload_spec.specs.Settings.{Settings};
 ghost use Rattle.part_spec.specs.ClientState.{ClientState, is_present};
-ghost use Rattle.part_spec.specs.ClientTurn.{client_sever};
+ghost use Rattle.part_spec.specs.ClientTurn.{client_sever, client_turn};
+ghost use Rattle.lload_names.specs.declared.inputs.Input.{Input};
+ghost use Rattle.lload_names.specs.declared.names.EndWhy.{EndWhy};
+ghost use Rattle.client_session.specs.Most.{most_of, IsWithin};
 ghost use Rattle.client_session.specs.Closing.{closing, most_closing};
 ghost use Rattle.client_session.specs.Ended.{IsEnded, ended};
 ghost use Rattle.client_session.specs.Stands.{Stands};
@@ -18,6 +21,16 @@ impl ClientPart {
         ensures { (s : Settings) (p : ClientState) → Stands s p self.now → result ≡ is_present p }
     {
         self.arrived && !self.gone
+    }
+
+    /// How many entries, and how many letters, a step or a sever made now gives at most. It takes no memory.
+    pub fn most(&self) -> u64
+        ensures most { (s : Settings) (p : ClientState) → Stands s p self.now → result ≡ most_of p }
+        ensures step { (s : Settings) (p : ClientState) (input : Input) → Stands s p self.now → IsWithin result (client_turn s p input) }
+        ensures sever { (s : Settings) (p : ClientState) (now : ℕ) (why : EndWhy) → Stands s p self.now → IsWithin result (client_sever p now why) }
+    {
+        let closing = self.most_endings() + self.paused.len();
+        closing.max(3) as u64
     }
 
     /// The end of the link, at the moment `now` in milliseconds and for a reason that a link has: the part ends, and

@@ -1,4 +1,4 @@
-ghost use Rattle.std.specs.Prelude.{◌≡◌, ◌&&◌, ◌∷◌, ◌++◌, [], false, true, not, OnOk, OnErr, Some, None};
+ghost use Rattle.std.specs.Prelude.{◌≡◌, ◌<◌, ◌&&◌, ◌∷◌, ◌++◌, [], false, true, not, OnOk, OnErr, Some, None};
 ghost use Rattle.lload_spec.specs.Settings.{Settings};
 ghost use Rattle.part_spec.specs.ClientState.{ClientState, empty_client, is_holding};
 ghost use Rattle.part_spec.specs.ClientTurn.{client_turn};
@@ -85,7 +85,8 @@ impl ClientPart {
     /// Whether no message may be handed to it yet: an operation of it lets later ones wait, or the last number of an
     /// operation has come. It takes no memory.
     pub fn holds(&self) -> bool
-        ensures { (s : Settings) (p : ClientState) → Stands s p self.now → result ≡ is_holding s p }
+        ensures holds { (s : Settings) (p : ClientState) → Stands s p self.now → result ≡ is_holding s p }
+        ensures more { result ≡ false → self.now.operations.count < 18446744073709551615 }
     {
         self.operations.is_waiting() || self.operations.count() == u64::MAX
     }
