@@ -125,9 +125,9 @@ did-cancel s p d e o at m id kind row last_words answer old new xs ys found one 
     let q = without (λ x. x.k == row.k) at p in
     let out : ClientState → ℕ → List ℕ → ClientState = λ x i rest. step_client s x (record { entry = entry p at (what.Out i rest); mark = None }) in
     let whats : ◌≡◌ {A = List What} (what.In m.id m.rest ∷ what.Out id last_words ∷ what.Out m.id answer ∷ []) (what.In m.id m.rest ∷ (canceled id (Some kind) C13 ++ canceled m.id (kind_of m.rest) S1)) =
-        ap (λ b. what.In m.id m.rest ∷ what.Out id b ∷ what.Out m.id answer ∷ []) said
-        ∙ ap (λ b. what.In m.id m.rest ∷ what.Out id (cancel_answer kind C13) ∷ what.Out m.id b ∷ []) told
-        ∙ ap (λ x. what.In m.id m.rest ∷ what.Out id (cancel_answer kind C13) ∷ canceled m.id x S1) (sym its) in
+    ap (λ b. what.In m.id m.rest ∷ what.Out id b ∷ what.Out m.id answer ∷ []) said
+    ∙ ap (λ b. what.In m.id m.rest ∷ what.Out id (cancel_answer kind C13) ∷ what.Out m.id b ∷ []) told
+    ∙ ap (λ x. what.In m.id m.rest ∷ what.Out id (cancel_answer kind C13) ∷ canceled m.id x S1) (sym its) in
     did-same s p at None _ _ _ _ old new (record e { operations = o; moment = at }) whats refl
     (record {
       entries = three-entries _ _ _ _ _ _ _ first second third;

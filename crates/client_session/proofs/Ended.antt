@@ -56,9 +56,10 @@ ended-stands s at p w d e i h = record {
 
 -- the end of the link
 pub sever-gives : (s : Settings) (p : ClientState) (d : ClientPart) (at : ℕ) (why : EndWhy) (before after : Outbox) → Stands s p d → before.entries.items ≡ [] → before.letters.items ≡ [] → after.entries.items ≡ before.entries.items ++ record { part = Client d.number; at = at; what = what.Gone why } ∷ [] → after.letters.items ≡ before.letters.items ++ closing d → (after.entries.items ≡ entries_of (Client p.number) at (what.Gone why ∷ [])) × (after.letters.items ≡ turn.closing p)
-sever-gives s p d at why before after h none empty entries letters =
-    ( entries ∙ ap (λ l. l ++ record { part = Client d.number; at = at; what = what.Gone why } ∷ []) none ∙ ap (λ n. record { part = Client n; at = at; what = what.Gone why } ∷ []) (sym h.number),
-      letters ∙ ap (λ l. l ++ closing d) empty ∙ sym (closing-shown s p d h) )
+sever-gives s p d at why before after h none empty entries letters = (
+  entries ∙ ap (λ l. l ++ record { part = Client d.number; at = at; what = what.Gone why } ∷ []) none ∙ ap (λ n. record { part = Client n; at = at; what = what.Gone why } ∷ []) (sym h.number),
+  letters ∙ ap (λ l. l ++ closing d) empty ∙ sym (closing-shown s p d h),
+)
 
 -- the notice ends no Bind
 notice-no-bind : (k : OpKind) → same_kind kinds.Bind k ≡ true → is_final k protocol_error_notice ≡ false

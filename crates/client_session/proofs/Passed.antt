@@ -147,9 +147,9 @@ module _ (s : Settings) (p : ClientState) (at : ℕ) (new : ClientRow) (kind : O
       let t : ClientRow → Bool = λ r. r.k == suc p.count in
       let here : t new ≡ true = grind (arith, nat_tests, number) in
       let rows : filter (λ r. not (t r)) (p.rows ++ new ∷ []) ≡ p.rows =
-          filter-end (λ r. not (t r)) p.rows new ∙ ap (λ b. filter (λ r. not (t r)) p.rows ++ cond (not b) (new ∷ []) []) here ∙ append-nil (filter (λ r. not (t r)) p.rows) ∙ filter-none t p.rows none in
+      filter-end (λ r. not (t r)) p.rows new ∙ ap (λ b. filter (λ r. not (t r)) p.rows ++ cond (not b) (new ∷ []) []) here ∙ append-nil (filter (λ r. not (t r)) p.rows) ∙ filter-none t p.rows none in
       let ends : list_any (λ r. t r && is_written r) (p.rows ++ new ∷ []) ≡ false =
-          any-end (λ r. t r && is_written r) p.rows new ∙ ap (λ b. b || (t new && is_written new || false)) (any-none t is_written p.rows none) ∙ ap (λ b. t new && b || false) unwritten ∙ ap (λ b. b || false) (and-false (t new)) in
+      any-end (λ r. t r && is_written r) p.rows new ∙ ap (λ b. b || (t new && is_written new || false)) (any-none t is_written p.rows none) ∙ ap (λ b. t new && b || false) unwritten ∙ ap (λ b. b || false) (and-false (t new)) in
       let make : List ClientRow → Bool → ClientState = λ rows ends. record p { count = suc p.count; moment = at; rows = rows; window = record p.window { write_ended = if ends then max at p.window.write_ended else p.window.write_ended } } in
       ap (λ l. make l (list_any (λ r. t r && is_written r) (p.rows ++ new ∷ []))) rows ∙ ap (make p.rows) ends
 

@@ -51,10 +51,10 @@ module _ {A : Type 0} (t u : A → Bool) where
   same-tests (x ∷ xs) e =
       let first : t x ≡ u x = cc in
       let rest : map t xs ≡ map u xs = cc in
-      let ih = same-tests xs rest in
-      ( ap (λ b. cond (not b) (x ∷ filter (λ y. not (t y)) xs) (filter (λ y. not (t y)) xs)) first ∙ ap (λ l. cond (not (u x)) (x ∷ l) l) ih.0,
-        λ q. ap (λ b. b && q x || list_any (λ y. t y && q y) xs) first ∙ ap (λ b. u x && q x || b) (ih.1 q) )
-
+      let ih = same-tests xs rest in (
+        ap (λ b. cond (not b) (x ∷ filter (λ y. not (t y)) xs) (filter (λ y. not (t y)) xs)) first ∙ ap (λ l. cond (not (u x)) (x ∷ l) l) ih.0,
+        λ q. ap (λ b. b && q x || list_any (λ y. t y && q y) xs) first ∙ ap (λ b. u x && q x || b) (ih.1 q),
+      )
 
 pub without-tests : (t u : ClientRow → Bool) (at : ℕ) (p : ClientState) → map t p.rows ≡ map u p.rows → without t at p ≡ without u at p
 without-tests t u at p e =

@@ -17,8 +17,8 @@ ghost use Rattle.client_session.specs.Stands.{Stands};
 use crate::check::kind_of;
 use crate::choices::is_bind;
 use crate::part::ClientPart;
-use lload_cancel::cancel_rest;
 use ldap_messages::refusal_rest;
+use lload_cancel::cancel_rest;
 use lload_names::{Body, CancelAnswer, NoMemory, Refusal, What};
 use outbox::Outbox;
 

@@ -45,13 +45,7 @@ impl ClientPart {
     }
 
     /// A Bind that goes on in no exchange: the desk is asked for a bind connection.
-    fn bind_anew(
-        &mut self,
-        at: u64,
-        row: Row,
-        rest: Body,
-        out: &mut Outbox,
-    ) -> Result<(), NoMemory>
+    fn bind_anew(&mut self, at: u64, row: Row, rest: Body, out: &mut Outbox) -> Result<(), NoMemory>
         requires next { row.k ≡ self.old.operations.count + 1 }
         requires room { self.old.operations.count < 18446744073709551615 }
         ensures did { OnOk result ((s : Settings) (p : ClientState) → Stands s p self.old → p.in_exchange ≡ false → kind_of rest ≡ Some Bind → (row.id == 0) ≡ false → lets_go_on (check_at s p (record { id = row.id; rest = rest })) ≡ true → shown row ≡ seen s (waiting_row s p (record { id = row.id; rest = rest })) → Did s p at None (act (In row.id rest ∷ []) (binds s p at (record { id = row.id; rest = rest }))) out.old out.new self.new) }
@@ -88,13 +82,7 @@ impl ClientPart {
     }
 
     /// A Bind that goes on in its exchange: its request goes to the connection that is held.
-    fn bind_on(
-        &mut self,
-        at: u64,
-        row: Row,
-        rest: Body,
-        out: &mut Outbox,
-    ) -> Result<(), NoMemory>
+    fn bind_on(&mut self, at: u64, row: Row, rest: Body, out: &mut Outbox) -> Result<(), NoMemory>
         requires next { row.k ≡ self.old.operations.count + 1 }
         requires room { self.old.operations.count < 18446744073709551615 }
         ensures did { OnOk result ((s : Settings) (p : ClientState) → Stands s p self.old → p.in_exchange ≡ true → kind_of rest ≡ Some Bind → (row.id == 0) ≡ false → lets_go_on (check_at s p (record { id = row.id; rest = rest })) ≡ true → shown row ≡ seen s (waiting_row s p (record { id = row.id; rest = rest })) → Did s p at None (act (In row.id rest ∷ []) (binds s p at (record { id = row.id; rest = rest }))) out.old out.new self.new) }

@@ -36,7 +36,14 @@ impl ClientPart {
         }
         let notice = notice_rest(self.alloc)?;
         self.reserve_closing(2, out)?;
-        self.put(at, What::Out { id: 0, rest: notice }, out);
+        self.put(
+            at,
+            What::Out {
+                id: 0,
+                rest: notice,
+            },
+            out,
+        );
         self.finish(at, why, out);
         Ok(())
     }
@@ -59,7 +66,14 @@ impl ClientPart {
         self.reserve_closing(3, out)?;
         self.count_in(id, rest.as_slice());
         self.put(at, What::In { id, rest }, out);
-        self.put(at, What::Out { id: 0, rest: notice }, out);
+        self.put(
+            at,
+            What::Out {
+                id: 0,
+                rest: notice,
+            },
+            out,
+        );
         self.finish(at, why, out);
         Ok(())
     }

@@ -154,11 +154,15 @@ fn simple_who(alloc: Global, rest: &[u8]) -> Result<Option<Body>, NoMemory>
     ensures { IfOk result (λ who. who ≡ simple_who (request_of rest.now)) }
 {
     match classify(rest) {
-        Some(Request::Bind(BindRequest {
-            name,
-            method: Method::Simple { password },
-            ..
-        })) => Ok(Some(simple_identity(alloc, name, password)?)),
+        Some(
+            Request::Bind(
+                BindRequest {
+                    name,
+                    method: Method::Simple { password },
+                    ..
+                },
+            ),
+        ) => Ok(Some(simple_identity(alloc, name, password)?)),
         _ => Ok(None),
     }
 }
