@@ -30,6 +30,10 @@ pub rises-lower : (low high : ℕ) (es : List (ℕ × Row)) (next : ℕ) → low
 rises-lower low high [] next le h = omega (arith, le, h)
 rises-lower low high (e ∷ es) next le h = (omega (arith, le, h.0), h.1)
 
+pub rises-more : (low : ℕ) (es : List (ℕ × Row)) (next more : ℕ) → next ≤ more → Rises low es next → Rises low es more
+rises-more low [] next more le h = omega (arith, le, h)
+rises-more low (e ∷ es) next more le h = (h.0, rises-more (e.0 + 1) es next more le h.1)
+
 -- the next number goes to the end
 pub insert-end : (low : ℕ) (es : List (ℕ × Row)) (k : ℕ) (r : Row) → Rises low es k → insert_entry nat_cmp es k r ≡ es ++ (k, r) ∷ []
 insert-end low [] k r h = refl

@@ -29,13 +29,13 @@ count-end p r (x ∷ rs) = grind (arith, count-end p r rs)
 
 -- an operation behind a number
 
-none-without : (k low : ℕ) (rs : List Row) (next : ℕ) → k < low → Rises low rs next → without k rs ≡ rs
+pub none-without : (k low : ℕ) (rs : List Row) (next : ℕ) → k < low → Rises low rs next → without k rs ≡ rs
 none-without k low [] next l h = refl
 none-without k low (r ∷ rs) next l h =
     let other : has_number k r ≡ false = grind (arith, nat_tests, l, h.0) in
     rw other (ap (λ l. r ∷ l) (none-without k (r.k + 1) rs next (omega (arith, l, h.0)) h.1))
 
-none-sent : (k u low : ℕ) (rs : List Row) (next : ℕ) → k < low → Rises low rs next → map (sent k u) rs ≡ rs
+pub none-sent : (k u low : ℕ) (rs : List Row) (next : ℕ) → k < low → Rises low rs next → map (sent k u) rs ≡ rs
 none-sent k u low [] next l h = refl
 none-sent k u low (r ∷ rs) next l h =
     let other : (r.k == k) ≡ false = grind (arith, nat_tests, l, h.0) in

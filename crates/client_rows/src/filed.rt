@@ -84,6 +84,15 @@ impl FiledRows {
         Ok(())
     }
 
+    /// The next operation came, and is none of them.
+    pub(crate) fn pass(&mut self)
+        requires room { self.old.count < 18446744073709551615 }
+        ensures passed { self.new ≡ record { count = self.old.count + 1; rows = self.old.rows } }
+        ensures numbered { IsNumbered self.new }
+    {
+        self.count += 1;
+    }
+
     /// Notes that the operation of a number goes to a connection, and hands out its request, where it waited for one.
     pub(crate) fn send(&mut self, k: u64, conn: u32) -> Option<Body>
         ensures body { result ≡ waiting_body (find (has_number k) self.old.rows) }

@@ -1,4 +1,4 @@
-ghost use Rattle.std.specs.Prelude.{◌≡◌, ◌≤◌, ◌<◌, ◌+◌, ◌++◌, ◌∷◌, [], length, find, filter, map, not, OnOk, OnErr, IfSome};
+ghost use Rattle.std.specs.Prelude.{◌≡◌, ◌≤◌, ◌<◌, ◌+◌, ◌++◌, ◌∷◌, [], length, find, filter, map, not, OnOk, OnErr, IfOk, IfSome};
 ghost use Rattle.std.specs.List.{list_any};
 ghost use Rattle.std.specs.Option.{option_copied, option_to_list};
 ghost use Rattle.client_rows.specs.Rows.{has_number, has_id, lets_wait, sent, waiting_body, without, IsNumbered};
@@ -10,6 +10,7 @@ use std::alloc::Global;
 use std::collections::BTreeMap;
 use std::collections::btree_map::Values;
 use std::marker::Model;
+use std::mem;
 
 /// How many operations of a client came, and those that are live, by rising number. No two have one identifier.
 /// Contracts see the count and the list.
@@ -106,6 +107,7 @@ impl Operations {
         requires free { filter (has_id row.id) self.old.rows ≡ [] }
         ensures ok { OnOk result (self.new ≡ record { count = self.old.count + 1; rows = self.old.rows ++ row ∷ [] }) }
         ensures err { OnErr result (self.new ≡ self.old) }
+        ensures numbered { IsNumbered self.old }
     {
         if self.waiting == usize::MAX {
             return Err(NoMemory);
@@ -121,17 +123,26 @@ impl Operations {
         Ok(())
     }
 
-    /// Ends all live operations, and begins the next one. For want of memory nothing changes.
-    pub fn replace(&mut self, row: Row) -> Result<(), NoMemory>
+    /// Ends all live operations, which it hands out, and begins the next one. For want of memory nothing changes.
+    pub fn replace(&mut self, row: Row) -> Result<Operations, NoMemory>
         requires next { row.k ≡ self.old.count + 1 }
         requires room { self.old.count < 18446744073709551615 }
+        ensures ended { IfOk result (λ ended. ended ≡ self.old) }
         ensures ok { OnOk result (self.new ≡ record { count = self.old.count + 1; rows = row ∷ [] }) }
         ensures err { OnErr result (self.new ≡ self.old) }
     {
         let mut next = Operations::behind(self.alloc, self.count());
         next.push(row)?;
-        *self = next;
-        Ok(())
+        Ok(mem::replace(self, next))
+    }
+
+    /// The next operation came and is over. It takes no memory.
+    pub fn pass(&mut self)
+        requires room { self.old.count < 18446744073709551615 }
+        ensures passed { self.new ≡ record { count = self.old.count + 1; rows = self.old.rows } }
+        ensures numbered { IsNumbered self.old }
+    {
+        self.filed.pass();
     }
 
     /// Notes that the operation of a number goes to a connection, and hands out its request, where it waited for one.
@@ -139,6 +150,7 @@ impl Operations {
     pub fn send(&mut self, k: u64, conn: u32) -> Option<Body>
         ensures body { result ≡ waiting_body (find (has_number k) self.old.rows) }
         ensures sent { self.new ≡ record { count = self.old.count; rows = map (sent k conn) self.old.rows } }
+        ensures numbered { IsNumbered self.old }
     {
         let row = self.filed.get(k)?;
         let stops = one(row.waits_for_connection());

@@ -61,7 +61,7 @@ impl Row {
 
     /// Notes that it goes to a connection, and hands out its request, where it waited for one. Where it went before it
     /// stays.
-    pub(crate) fn send(&mut self, conn: u32) -> Option<Body>
+    pub fn send(&mut self, conn: u32) -> Option<Body>
         ensures body { result ≡ body_of self.old.way }
         ensures sent { self.new ≡ record self.old { way = sent_on conn self.old.way } }
     {

@@ -31,7 +31,7 @@ fn operations_come_go_and_wait(rt: HostRuntime) -> Result<(), Fail> {
     assert!(rt; operations.of(1).is_none());
     let count = operations.count();
     if count == 2 {
-        operations.replace(Row {
+        let ended = operations.replace(Row {
             k: count + 1,
             id: 7,
             kind: OpKind::Bind,
@@ -40,9 +40,14 @@ fn operations_come_go_and_wait(rt: HostRuntime) -> Result<(), Fail> {
             who: None,
             way: Way::Went(6),
         })?;
+        assert_eq!(rt; ended.len(), 1);
     }
     assert_eq!(rt; operations.len(), 1);
     assert!(rt; operations.is_waiting(), "a Bind always lets others wait");
+    if operations.count() == 3 {
+        operations.pass();
+    }
+    assert_eq!(rt; operations.count(), 4);
     operations.clear();
     assert_eq!(rt; operations.len(), 0);
     Ok(())

@@ -118,9 +118,10 @@ same-asks s q p d e h = record {
   stalled = h.stalled;
   paused = h.paused;
   idle = h.idle;
+  room = h.room;
 }
 
-one-shown : (s : Settings) (xs : List ClientRow) (v : Seen) → map (seen s) xs ≡ v ∷ [] → (r : ClientRow) × (xs ≡ r ∷ []) × (seen s r ≡ v)
+pub one-shown : (s : Settings) (xs : List ClientRow) (v : Seen) → map (seen s) xs ≡ v ∷ [] → (r : ClientRow) × (xs ≡ r ∷ []) × (seen s r ≡ v)
 one-shown s [] v e = absurd (let bad : ◌≡◌ {A = List Seen} [] (v ∷ []) = e in cc)
 one-shown s (r ∷ []) v e = (r, refl, cc)
 one-shown s (r ∷ q ∷ xs) v e = absurd (let bad : ◌≡◌ {A = List Seen} (seen s r ∷ seen s q ∷ map (seen s) xs) (v ∷ []) = e in cc)

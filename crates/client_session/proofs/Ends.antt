@@ -1,5 +1,5 @@
 -- What the part stands for where an operation ended.
-use Rattle.std.proofs.Common.{◌≡◌, ◌<◌, ◌+◌, ◌-◌, ℕ, ℤ, Bool, true, false, not, ◌==◌, ◌&&◌, ◌||◌, max, cond, if◌then◌else◌, List, [], ◌∷◌, ◌++◌, filter, find, length, map, Option, Some, None, suc, arith, refl, ap, subst, sym, ◌∙◌}
+use Rattle.std.proofs.Common.{◌≡◌, ◌≤◌, ◌<◌, ◌+◌, ◌-◌, ℕ, ℤ, Bool, true, false, not, ◌==◌, ◌&&◌, ◌||◌, max, cond, if◌then◌else◌, List, [], ◌∷◌, ◌++◌, filter, find, length, map, Option, Some, None, suc, arith, refl, ap, subst, sym, ◌∙◌}
 use Rattle.std.proofs.lemmas.Bool.Decides.{nat_tests}
 use Rattle.std.specs.Prelude.{is_some}
 use Rattle.std.specs.List.{list_any}
@@ -97,6 +97,10 @@ binds-ended s k at xs o r w old new false t n e f ended same h =
     let make : ℕ → Standing = λ live. record (standing_for s xs w) { live = live } in
     record { calls = h.calls; kept_is = same refl ∙ h.kept_is; says = ap make same_count ∙ h.says ∙ sym (same refl) }
 
+shorter : (t : Row → Bool) (rs : List Row) → length (filter t rs) ≤ length rs
+shorter t [] = omega arith
+shorter t (r ∷ rs) = grind (arith, shorter t rs)
+
 -- an operation of the part ended
 pub one-ended : (s : Settings) (k at : ℕ) (p : ClientState) (d : ClientPart) (o : Counted) (r : Row) (new : Standing) → IsNumbered d.operations → find (has_number k) d.operations.rows ≡ Some r → o ≡ record { count = d.operations.count; rows = rows.without k d.operations.rows } → ((calls : List Call) → written r ≡ true → 0 < d.window.live → d.window ≡ standing d.window.seconds calls → new ≡ standing d.window.seconds (calls ++ WriteEnded at ∷ [])) → (written r ≡ false → new ≡ d.window) → Stands s p d → Stands s (without (λ x. x.k == k) at p) (record d { operations = o; window = new })
 one-ended s k at p d o r new n f is ended same h =
@@ -117,4 +121,5 @@ one-ended s k at p d o r new n f is ended same h =
       stalled = h.stalled;
       paused = h.paused;
       idle = h.idle;
+      room = λ there stays. let old = h.room there stays in let less = shorter (λ r. not (has_number k r)) d.operations.rows in omega (arith, old, less);
     })

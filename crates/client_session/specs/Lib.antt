@@ -1,2 +1,12 @@
+pub mod Kept
 pub mod Checks
 pub mod Stands
+pub mod Did
+pub mod Closing
+pub mod Fit
+pub mod Choices
+pub mod Ended
+pub mod Flow
+pub mod Under
+pub mod GoesOn
+pub mod Most

@@ -1,5 +1,5 @@
 -- For which states of the definitions a client's part stands.
-use Rattle.std.specs.Prelude.{◌≡◌, ◌≤◌, ℕ, Bool, true, false, ◌==◌, ◌&&◌, nat_le, List, [], ◌∷◌, filter, find, length, map, Option, Some, None, is_some, unwrap_or, if◌then◌else◌}
+use Rattle.std.specs.Prelude.{◌≡◌, ◌≤◌, ◌+◌, ℕ, Bool, true, false, ◌==◌, ◌&&◌, nat_le, List, [], ◌∷◌, filter, find, length, map, Option, Some, None, is_some, unwrap_or, if◌then◌else◌}
 use Rattle.std.specs.List.{list_all}
 use Rattle.std.specs.Option.{option_map}
 use Rattle.lload_names.specs.declared.names.OpKind.{OpKind}
@@ -120,6 +120,7 @@ pub record Stands (s : Settings) (p : ClientState) (d : ClientPart) : Type 0 whe
   pub stalled : p.pausing.stalled ≡ d.stalled
   pub paused : p.pausing.paused ≡ d.paused.keys
   pub idle : p.pausing.stalled ≡ false → p.pausing.paused ≡ []
+  pub room : p.arrived ≡ true → p.gone ≡ false → length d.operations.rows + 1 + length d.paused.keys ≤ d.kept
 
 -- the state behind an input
 abbrev pub behind : Settings → ClientState → Input → ClientState

@@ -13,7 +13,7 @@ ghost use Rattle.part_spec.specs.Marked.{Taken};
 ghost use Rattle.lload_names.specs.declared.names.PartName.{PartName};
 ghost use Rattle.lload_names.specs.declared.inputs.Input.TheVariants as Input;
 ghost use Rattle.lload_names.specs.declared.names.Letter.TheVariants as Letter;
-ghost use Rattle.client_rows.specs.Rows.{has_number, has_id};
+ghost use Rattle.client_rows.specs.Rows.{has_number, has_id, IsNumbered};
 ghost use Rattle.client_session.specs.Stands.{Stands, IsToldOnly, behind, seen, shown, simple_who, written, identity_by};
 
 use crate::part::ClientPart;
@@ -70,7 +70,7 @@ impl ClientPart {
     }
 
     /// The answer that refuses an operation; any bytes where it isn't live.
-    fn refusal_of(&self, op: OpName, which: Refusal) -> Result<Body, NoMemory>
+    pub(crate) fn refusal_of(&self, op: OpName, which: Refusal) -> Result<Body, NoMemory>
         ensures { IfOk result (λ rest. (s : Settings) (p : ClientState) → Stands s p self.now → (failure p op which).whats ≡ (answer p op rest).whats) }
     {
         match self.live(op) {
@@ -107,7 +107,7 @@ impl ClientPart {
     }
 
     /// What happens at an answer to an operation, which the operation takes where it is live. It takes no memory.
-    fn take_answer(&mut self, op: OpName, rest: Body, who: Option<Body>, at: u64) -> What
+    pub(crate) fn take_answer(&mut self, op: OpName, rest: Body, who: Option<Body>, at: u64) -> What
         ensures what { (s : Settings) (p : ClientState) → Stands s p self.old → (answer p op rest).whats ≡ result ∷ [] }
         ensures state { (s : Settings) (p : ClientState) (mark : Option Taken) → Stands s p self.old → who_told mark ≡ who → Stands s (record (client_behind s at mark p result) { asked = p.asked }) self.new }
         ensures told { IsToldOnly result }
@@ -123,7 +123,7 @@ impl ClientPart {
     }
 
     /// The live operation of a name.
-    fn live(&self, op: OpName) -> Option<&Row>
+    pub(crate) fn live(&self, op: OpName) -> Option<&Row>
         ensures named { (s : Settings) (p : ClientState) → Stands s p self.now → option_map (seen s) (row_named p op) ≡ option_map shown (option_copied result) }
         ensures found { IfSome result (λ row. find (has_number op.k) self.now.operations.rows ≡ Some row.now) }
         ensures alone { IfSome result (λ row. filter (has_id row.now.id) self.now.operations.rows ≡ row.now ∷ []) }
@@ -135,9 +135,11 @@ impl ClientPart {
     }
 
     /// Ends the live operation of a number at a moment, and hands it out. It takes no memory.
-    fn end(&mut self, k: u64, at: u64) -> Option<Row>
+    pub(crate) fn end(&mut self, k: u64, at: u64) -> Option<Row>
         ensures row { result ≡ find (has_number k) self.old.operations.rows }
         ensures number { self.new.number ≡ self.old.number }
+        ensures numbered { IsNumbered self.old.operations }
+        ensures count { self.new.operations.count ≡ self.old.operations.count }
         ensures state { OnSome result ((s : Settings) (p : ClientState) → Stands s p self.old → Stands s (without (λ x. x.k == k) at p) self.new) }
     {
         let row = self.operations.take(k)?;

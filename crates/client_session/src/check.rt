@@ -1,5 +1,5 @@
 ghost use Rattle.std.specs.Prelude.{◌≡◌, ◌∷◌, [], not, ◌==◌, ◌&&◌, length, Some, None, IsSome, MatchOption};
-ghost use Rattle.ldap_spec.specs.Kinds.{is_unbind, is_abandon};
+ghost use Rattle.ldap_spec.specs.Kinds.{is_unbind, is_abandon, kind_of as kind_of_rest};
 ghost use Rattle.ldap_spec.specs.Requests.{request as request_of, cancel_id as id_of_cancel};
 ghost use Rattle.ldap_messages.specs.Requests.{view};
 ghost use Rattle.lload_spec.specs.Entries.{makes_operation};
@@ -145,7 +145,7 @@ impl ClientPart {
     }
 
     /// Whether the identifier is one of a live operation.
-    fn is_in_use(&self, id: u32) -> bool
+    pub(crate) fn is_in_use(&self, id: u32) -> bool
         ensures { result ≡ is_in_use_by (facts self.now) id }
     {
         self.operations.under(id).is_some()
@@ -179,12 +179,29 @@ fn name_of<'a>(request: &Request<'a>) -> &'a [u8]
 }
 
 /// Whether a request with this rest makes an operation: it is no Unbind and no Abandon, told by its first octet.
-fn makes_operation(rest: &[u8]) -> bool
+pub(crate) fn makes_operation(rest: &[u8]) -> bool
     ensures { result ≡ (not (is_unbind rest.now) && not (is_abandon rest.now)) }
 {
     match rest.first() {
         Some(tag) => *tag != 0x42 && *tag != 0x50,
         None => true,
+    }
+}
+
+/// The kind of the request that a rest begins with, told by its first octet (RFC 4511, section 4.1.1).
+pub(crate) fn kind_of(rest: &[u8]) -> Option<OpKind>
+    ensures { result ≡ kind_of_rest rest.now }
+{
+    match rest.first()? {
+        0x60 => Some(OpKind::Bind),
+        0x63 => Some(OpKind::Search),
+        0x66 => Some(OpKind::Modify),
+        0x68 => Some(OpKind::Add),
+        0x4A => Some(OpKind::Delete),
+        0x6C => Some(OpKind::ModifyDn),
+        0x6E => Some(OpKind::Compare),
+        0x77 => Some(OpKind::Extended),
+        _ => None,
     }
 }
 

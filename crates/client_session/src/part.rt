@@ -1,4 +1,4 @@
-ghost use Rattle.std.specs.Prelude.{◌≡◌, ◌&&◌, ◌∷◌, ◌++◌, [], false, true, not, OnOk, OnErr, Some, None};
+ghost use Rattle.std.specs.Prelude.{◌≡◌, ◌<◌, ◌&&◌, ◌∷◌, ◌++◌, [], false, true, not, OnOk, OnErr, Some, None};
 ghost use Rattle.lload_spec.specs.Settings.{Settings};
 ghost use Rattle.part_spec.specs.ClientState.{ClientState, empty_client, is_holding};
 ghost use Rattle.part_spec.specs.ClientTurn.{client_turn};
@@ -6,6 +6,7 @@ ghost use Rattle.client_session.specs.Checks.{Agrees};
 ghost use Rattle.lload_names.specs.declared.inputs.Input.TheVariants as Input;
 ghost use Rattle.client_session.specs.Stands.{Stands, behind, is_empty};
 
+use crate::kept::Kept;
 use crate::settings::ClientSettings;
 use client_rows::Operations;
 use coherence::Window;
@@ -40,6 +41,7 @@ pub struct ClientPart {
     pub(crate) stalled: bool,
     /// The connections that it pauses.
     pub(crate) paused: BTreeSet<u32>,
+    pub(crate) kept: Kept,
 }
 
 impl ClientPart {
@@ -62,6 +64,7 @@ impl ClientPart {
             settings,
             stalled: false,
             paused: BTreeSet::new(alloc),
+            kept: Kept::new(alloc),
         }
     }
 
@@ -82,7 +85,8 @@ impl ClientPart {
     /// Whether no message may be handed to it yet: an operation of it lets later ones wait, or the last number of an
     /// operation has come. It takes no memory.
     pub fn holds(&self) -> bool
-        ensures { (s : Settings) (p : ClientState) → Stands s p self.now → result ≡ is_holding s p }
+        ensures holds { (s : Settings) (p : ClientState) → Stands s p self.now → result ≡ is_holding s p }
+        ensures more { result ≡ false → self.now.operations.count < 18446744073709551615 }
     {
         self.operations.is_waiting() || self.operations.count() == u64::MAX
     }
@@ -99,6 +103,8 @@ impl ClientPart {
             return Ok(());
         }
         out.reserve(1, 0)?;
+        let letters = self.most_endings();
+        self.kept.reserve(letters, self.paused.len())?;
         let at = self.moment.max(now);
         out.entries.put(Entry {
             part: PartName::Client(self.number),

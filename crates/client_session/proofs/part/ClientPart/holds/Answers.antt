@@ -8,13 +8,13 @@ use Rattle.client_session.specs.Stands.{seen, shown}
 use Rattle.client_session.proofs.Views.{waits-shown}
 use Rattle.client_session.proofs.part.ClientPart.holds.Goals as goal
 
-pub returns-then-is_waiting : goal.returns-then-is_waiting
-returns-then-is_waiting c = λ s p h.
+pub returns-then-is_waiting-clause-holds : goal.returns-then-is_waiting-clause-holds
+returns-then-is_waiting-clause-holds c = λ s p h.
     let waits : list_any (row_waits s) p.rows ≡ true = waits-shown s p.rows c.args.self.now.operations.rows h.live.rows_are ∙ sym c.is_waiting.ensures ∙ c.if-is_waiting.true in
     rw (c.if-is_waiting.true, waits) refl
 
-pub returns-else-is_waiting : goal.returns-else-is_waiting
-returns-else-is_waiting c = λ s p h.
+pub returns-else-is_waiting-clause-holds : goal.returns-else-is_waiting-clause-holds
+returns-else-is_waiting-clause-holds c = λ s p h.
     let waits : list_any (row_waits s) p.rows ≡ false = waits-shown s p.rows c.args.self.now.operations.rows h.live.rows_are ∙ sym c.is_waiting.ensures ∙ c.if-is_waiting.false in
     let is : p.count ≡ c.count.result = h.live.count_is ∙ sym c.count.ensures in
     rw (waits, is) (grind (arith, nat_tests, c.count.type_inv))
