@@ -70,8 +70,8 @@ hold_by kind u op old = if same_kind Bind kind then Some (record { conn = u; hol
 
 -- the Forward of an operation with a request, where there is one
 abbrev pub forward_of : OpName → OpKind → Option (List ℕ) → Bool → OpName → ℕ → List Posted
-forward_of op kind None ask_who holder u = []
-forward_of op kind (Some rest) ask_who holder u = to (Connection u) (Forward op kind rest ask_who holder)
+forward_of op sort None ask_who holder u = []
+forward_of op sort (Some rest) ask_who holder u = to (Connection u) (Forward op sort rest ask_who holder)
 
 -- the Pause behind it
 abbrev pub pause_where : ℕ → Bool → ℕ → List Posted
