@@ -1,29 +1,15 @@
 use crate::slots::{Session, Slot};
-use crate::worker::{Desk, House, MOST, Over, run_round};
-use anyhow::{Result, bail};
-use lload_links::{Accept, Address, Bell, Connect, Harbour, Listen, Made, Watch, Watched, Woke};
+use crate::worker::{House, Over};
+use lload_links::{Accept, Address, Connect, Harbour, Watch, Watched};
 use net_links::{TcpHarbour, TcpLink, TcpWatch};
 use std::alloc::Global;
+use std::mem;
 use std::net::Net;
-use std::sync::{Mutex, Wait};
-use std::thread::Threads;
-use std::{mem, thread};
-
-// How many quiet waits of 1 ms come in a row before they are longer, and how long these are, in milliseconds.
-const EAGER: u32 = 100;
-
-const LONG: u32 = 100;
-
-/// What the words say.
-#[derive(Clone, Copy, Drop)]
-pub(crate) struct Plan<'a> {
-    pub(crate) port: u16,
-    pub(crate) servers: &'a [u16],
-}
+use std::sync::Wait;
 
 /// What the thread that accepts has for itself.
 #[derive(Drop)]
-struct Door {
+pub(crate) struct Door {
     // What puts links in the charge of each worker's poller.
     watches: Vec<TcpWatch>,
     // The first numbers of pairs of slots that have no session, and how many links of each pair came back.
@@ -32,7 +18,8 @@ struct Door {
     turn: usize,
 }
 
-fn here(port: u16) -> Address {
+/// A port of this machine.
+pub(crate) fn here(port: u16) -> Address {
     Address {
         ip: [127, 0, 0, 1],
         port,
@@ -40,6 +27,16 @@ fn here(port: u16) -> Address {
 }
 
 impl Door {
+    /// A door to workers, with what puts links in the charge of each one's poller.
+    pub(crate) fn new(alloc: Global, watches: Vec<TcpWatch>) -> Door {
+        Door {
+            watches,
+            free: Vec::new(alloc),
+            back: Vec::new(alloc),
+            turn: 0,
+        }
+    }
+
     /// The first number of a pair of slots that have no session. `None` for want of memory.
     fn take_pair<R: Wait>(&mut self, rt: &R, alloc: Global, house: &House) -> Option<u32> {
         if let Some(first) = self.free.pop() {
@@ -55,7 +52,7 @@ impl Door {
     }
 
     /// Takes back the links whose sessions ended.
-    fn take_back<R: Net + Wait>(
+    pub(crate) fn take_back<R: Net + Wait>(
         &mut self,
         rt: &R,
         alloc: Global,
@@ -113,7 +110,7 @@ impl Door {
     }
 
     /// Accepts all clients that wait, and connects each to a server.
-    fn accept_all<R: Net + Wait>(
+    pub(crate) fn accept_all<R: Net + Wait>(
         &mut self,
         rt: &R,
         alloc: Global,
@@ -170,49 +167,4 @@ fn give_up<R: Wait>(rt: &R, alloc: Global, house: &House, number: u32) {
     if let Some(Session { link, .. }) = session {
         let _ = house.over.lock(rt).push(Over { number, link });
     }
-}
-
-/// How long the poller may wait before the door is looked at, by how many waits in a row were quiet.
-fn patience(quiet: u32) -> u32 {
-    if quiet < EAGER { 1 } else { LONG }
-}
-
-/// Serves for ever on one thread, which looks at its door between the waits of its poller.
-pub(crate) fn serve<R: Net + Wait>(rt: &R, alloc: Global, plan: Plan<'_>) -> Result<()> {
-    let mut harbour = TcpHarbour::new(rt, alloc);
-    if harbour.listen(here(plan.port)) != Listen::Done {
-        bail!("can't listen");
-    }
-    let Bell::Made(bell) = harbour.bell(alloc) else {
-        bail!("no bell");
-    };
-    let Made::Both { mut poller, watch } = harbour.poller(alloc, MOST) else {
-        bail!("no poller");
-    };
-    let mut watches = Vec::new(alloc);
-    watches.push(watch)?;
-    let mut door = Door {
-        watches,
-        free: Vec::new(alloc),
-        back: Vec::new(alloc),
-        turn: 0,
-    };
-    let house = House {
-        slots: boxcar::Vec::new(alloc)?,
-        over: Mutex::new(Vec::new(alloc)),
-        bell,
-    };
-    let mut desk = Desk::new(alloc)?;
-    let mut quiet = 0u32;
-    for _ in rt.forever() {
-        match run_round(rt, alloc, &house, &mut poller, &mut desk, patience(quiet)) {
-            Woke::Failed | Woke::Closed => bail!("the poller failed"),
-            Woke::Ready => quiet = 0,
-            Woke::Quiet => quiet = quiet.saturating_add(1),
-        }
-        harbour.wait(0);
-        door.take_back(rt, alloc, &house, &mut harbour);
-        door.accept_all(rt, alloc, &house, &mut harbour, plan.servers);
-    }
-    Ok(())
 }

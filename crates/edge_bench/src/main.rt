@@ -1,15 +1,16 @@
 //! A forwarder of bytes over the real harbour: each client gets a connection to one of the servers in turn. It looks at
 //! nothing that it passes on, so it tells what sockets, pollers and scheduling cost alone.
 //!
-//! `edge_bench PORT SERVERPORT..` listens on 127.0.0.1 and serves on one thread until it is ended. With other words it ends
-//! at once.
+//! `edge_bench WORKERS PORT SERVERPORT..` listens on 127.0.0.1 and serves until it is ended: with one worker on one thread,
+//! and with more on a thread for each, which polls for itself, and one that accepts. With other words it ends at once.
 #![tactic(auto)]
 
 mod door;
+mod serve;
 mod slots;
 mod worker;
 
-use crate::door::{Plan, serve};
+use crate::serve::{Plan, serve};
 use std::env;
 
 fn main(rt: HostRuntime) -> anyhow::Result<()> {
@@ -20,10 +21,11 @@ fn main(rt: HostRuntime) -> anyhow::Result<()> {
         }
     }
     match numbers.as_slice() {
-        [port, servers @ ..] if !servers.is_empty() => serve(
+        [workers, port, servers @ ..] if *workers > 0 && !servers.is_empty() => serve(
             &rt,
             rt.alloc(),
             Plan {
+                workers: *workers,
                 port: *port,
                 servers,
             },

@@ -4,6 +4,7 @@ use net_links::{TcpLink, TcpPoller, TcpWatch};
 use std::alloc::{AllocError, Global};
 use std::collections::VecDeque;
 use std::mem;
+use std::sync::atomic::AtomicBool;
 use std::sync::{Mutex, Wait};
 
 /// How many links one wait tells of at most.
@@ -31,6 +32,8 @@ pub(crate) struct House {
     pub(crate) over: Mutex<Vec<Over>>,
     /// Ends the wait of the thread that accepts.
     pub(crate) bell: TcpWatch,
+    /// Whether a thread can't go on, so that all end.
+    pub(crate) has_failed: AtomicBool,
 }
 
 /// What a worker has for itself: sessions to read and to write, room for a read, and empty buffers.
