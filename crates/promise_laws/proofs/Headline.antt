@@ -189,9 +189,7 @@ no_sendings : (F : Family) (op : OpName) → sendings_of F op ≡ [] → (length
 no_sendings F op e = ap (λ (l : List Sending). length l == 0) e
 
 pub headline : HeadlineLaw
-headline s F op o p there =
-    let whole = p.whole in
-    let good = p.good in
+headline s F op o whole good there =
     let name : op ≡ o.name = same_op_eq op o.name (found_passes (λ x. same_op op x.name) (operations op.client (F.client op.client)) o there) in
     record {
       sent_once = leb-true (length (sendings_of F op)) 1 (ap (λ q. nat_le (length (sendings_of F q)) 1) name ∙ of_operation_found F (is_sent_once F) op o whole there good.fifo.sent_once);

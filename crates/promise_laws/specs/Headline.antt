@@ -12,13 +12,13 @@ use Rattle.lload_names.specs.declared.names.CancelAnswer.{CancelAnswer}
 use Rattle.lload_names.specs.declared.names.What.{What}
 use Rattle.lload_names.specs.declared.names.What.TheVariants as what
 use Rattle.lload_spec.specs.Settings.{Settings}
-use Rattle.lload_spec.specs.Journal.{Family}
+use Rattle.lload_spec.specs.Journal.{Family, IsWhole}
 use Rattle.lload_spec.specs.Operations.{Operation, operation, is_final_to, is_out_for, outs, ending_from}
 use Rattle.lload_spec.specs.Answers.{Sending, all_sendings, sendings_of, answers}
 use Rattle.lload_spec.specs.Fifo.{is_refused_with}
 use Rattle.lload_spec.specs.Identity.{carried}
 use Rattle.lload_spec.specs.Caused.{has_cause}
-use Rattle.lload_spec.specs.Good.{Promised}
+use Rattle.lload_spec.specs.Good.{Good}
 
 -- an element stands in a list
 pub record StandsIn {A : Type 0} (x : A) (xs : List A) : Type 0 where
@@ -104,8 +104,8 @@ pub record Headline (s : Settings) (F : Family) (op : OpName) (o : Operation) : 
   -- and each refusal that it got has its cause
   pub caused : (which : Refusal) → is_refused_with F which o ≡ true → has_cause s F o which ≡ true
 
--- where a family is whole and keeps what is promised, the headline holds of each operation of each client
+-- where a family is whole and keeps the six promises, the headline holds of each operation of each client
 abbrev pub HeadlineLaw : Type 0
 HeadlineLaw =
-    (s : Settings) (F : Family) (op : OpName) (o : Operation) → Promised s F → operation F op ≡ Some o
+    (s : Settings) (F : Family) (op : OpName) (o : Operation) → IsWhole F → Good s F → operation F op ≡ Some o
     → Headline s F op o

@@ -12,10 +12,10 @@ pub fn shares_give_what_is_said_of_one_list()
     ensures { OneListLaw }
 {}
 
-/// The promises in words, for the reader who trusts no test. Of each operation of each client: it went up at most once; where
-/// it did, what the client got is a beginning of what was answered there, in order, each once and octet for octet, or such a
-/// beginning and one named answer of the proxy's own; what went up carries the identity of its own client; nothing comes
-/// behind its end; and each refusal has its cause.
+/// The six promises in words, for the reader who trusts no test. Of each operation of each client: it went up at most once;
+/// where it did, what the client got is a beginning of what was answered there, in order, each once and octet for octet, or
+/// such a beginning and one named answer of the proxy's own; what went up carries the identity of its own client; nothing
+/// comes behind its end; and each refusal has its cause.
 pub fn the_promises_say_the_headline()
     ensures { HeadlineLaw }
 {}

@@ -1,5 +1,4 @@
-//! What the rows of a regular connection are: its open Sents, by its list and the family. And the promises that rest on
-//! this.
+//! What the rows of a regular connection are: its open Sents, by its list and the family.
 //!
 //! Each function has an empty body, and its contract is a law of joined lists that turns made.
 #![tactic(auto)]

@@ -1,13 +1,13 @@
-mod Places
-mod Heads
-mod Ids
-mod Facts
-mod BadMessages
-mod LastAnswers
-mod Answered
-mod Expiries
-mod Downs
-mod Held
-mod BindDowns
-mod BindEnds
-mod Ends
+pub mod Places
+pub mod Heads
+pub mod Ids
+pub mod Facts
+pub mod BadMessages
+pub mod LastAnswers
+pub mod Answered
+pub mod Expiries
+pub mod Downs
+pub mod Held
+pub mod BindDowns
+pub mod BindEnds
+pub mod Ends

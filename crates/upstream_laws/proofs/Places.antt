@@ -26,7 +26,7 @@ use Rattle.connection_laws.proofs.Rules.{placed_at}
 use Rattle.carried_laws.specs.Laws.{Played}
 use Rattle.upstream_laws.specs.Laws.{ConnectionsArePlaced}
 
-by_kind : {C : Type 0} (s : Settings) (u : ℕ) → (is_of_kind s Regular u ≡ true → C) → (is_of_kind s BindKind u ≡ true → C) → (place_at s u ≡ None → C) → C
+pub by_kind : {C : Type 0} (s : Settings) (u : ℕ) → (is_of_kind s Regular u ≡ true → C) → (is_of_kind s BindKind u ≡ true → C) → (place_at s u ≡ None → C) → C
 by_kind {C} s u regular bind none = by (place_at s u) refl
   where
     of_kind : (k : ConnKind) → Option Place → Bool

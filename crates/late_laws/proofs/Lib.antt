@@ -1,0 +1,6 @@
+mod Settles
+mod Successes
+mod Late
+mod Counts
+mod Timely
+mod Few

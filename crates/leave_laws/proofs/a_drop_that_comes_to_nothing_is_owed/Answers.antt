@@ -1,0 +1,7 @@
+use Rattle.leave_laws.proofs.IdlesOwed.{idles_owed}
+use Rattle.leave_laws.proofs.a_drop_that_comes_to_nothing_is_owed.Goals as goal
+
+pub returns : goal.returns
+returns c =
+    idles_owed c.a_forward_says_of_its_operation_what_the_family_says.ensures c.a_fit_list_begins_with_all_of_it.ensures
+    c.a_drop_comes_to_nothing_where_nothing_is_to_end.ensures

@@ -1,0 +1,9 @@
+pub mod Standing
+pub mod Machine
+pub mod Rows
+pub mod Got
+pub mod Dealt
+pub mod Retired
+pub mod Dropped
+pub mod Settles
+pub mod Upstream

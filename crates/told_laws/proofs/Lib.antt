@@ -1,0 +1,16 @@
+pub mod Expecting
+pub mod Cancels
+pub mod Lives
+pub mod Outs
+pub mod Letters
+pub mod Turns
+pub mod Given
+pub mod Sources
+pub mod Begin
+pub mod Refusals
+pub mod Troubles
+pub mod Waiting
+pub mod Coming
+pub mod Lost
+pub mod Unknown
+pub mod Came
