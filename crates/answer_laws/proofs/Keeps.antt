@@ -44,7 +44,7 @@ use Rattle.answer_laws.proofs.Gots.{is_kept_as, is_open, own_is}
 use Rattle.answer_laws.proofs.Rests.{told, quiet_told, reply_told, of_mine, mine_flat, lone_found}
 
 -- a message that isn't bad, and answers a Who Am I but no row, is an intermediate or an extended response
-answers_who : (p : ConnectionState) (m : Message) (q : UpRow) → is_bad (message_facts p) m ≡ false → is_under_own p m.id ≡ false → find (is_under m.id) p.rows ≡ None → find (is_under_who m.id) p.rows ≡ Some q → is_intermediate m.rest ≡ false → (tag_of m.rest == 0x78) ≡ true
+pub answers_who : (p : ConnectionState) (m : Message) (q : UpRow) → is_bad (message_facts p) m ≡ false → is_under_own p m.id ≡ false → find (is_under m.id) p.rows ≡ None → find (is_under_who m.id) p.rows ≡ Some q → is_intermediate m.rest ≡ false → (tag_of m.rest == 0x78) ≡ true
 answers_who p m q h own e k i = by (is_ignored m) (is_for_own (message_facts p) m) refl (own_is p m ∙ own) h
   where
     none_here : find (bad.is_under m.id) (map open_request p.rows) ≡ None

@@ -5,6 +5,7 @@ use Rattle.std.specs.List.{list_any, list_all}
 use Rattle.std.proofs.lemmas.Bool.Decides.{nat_tests}
 use Rattle.ldap_spec.specs.Kinds.{fits, kind_of, same_kind}
 use Rattle.ldap_spec.specs.Messages.{Message}
+use Rattle.lload_names.specs.declared.names.Entry.{Entry}
 use Rattle.lload_names.specs.declared.names.OpKind.{OpKind}
 use Rattle.lload_names.specs.declared.names.OpName.{OpName}
 use Rattle.lload_names.specs.declared.names.What.{What}
@@ -26,11 +27,32 @@ use Rattle.part_spec.specs.Marked.{Marked, entries}
 use Rattle.connection_laws.proofs.Apart.{is_taken}
 use Rattle.fifo_laws.proofs.Quiet.{others_quiet}
 use Rattle.answer_laws.proofs.Gots.{answer_by, got_open, is_kept_as, is_open}
-use Rattle.answer_laws.proofs.Ids.{is_given, untaken}
+use Rattle.answer_laws.proofs.Ids.{Ids, is_given, untaken}
 use Rattle.answer_laws.proofs.Keeps.{open_stays, others_stay}
 use Rattle.answer_laws.proofs.Places.{At, Rights}
 use Rattle.answer_laws.proofs.Rests.{told, quiet_told, of_mine, none_mine, gone_mine, one_mine}
 use Rattle.answer_laws.proofs.Told.{Begins, NoSent, gave, nothing_told, bad_silent, walk_kept, marked_so, next_at, bind_stays, told_later, told_here}
+
+module _ (s : Settings) (op : OpName) (kind : OpKind) (id : ℕ) (place : List Entry) (p : ConnectionState) (ids : Ids place p) (opened : list_all (of_mine op (is_open kind id)) p.rows ≡ true) (there : list_any (λ r. same_op op r.op) p.rows ≡ true) where
+  -- the identifier of the operation's row is in use
+  row : (r : UpRow) × ((is_given p.ids.next r.id && (r.id == id)) ≡ true)
+  row = one_mine op (λ r. is_given p.ids.next r.id && (r.id == id)) p.rows there (all_imply (λ r. is_given p.ids.next r.id && of_mine op (is_open kind id) r) (of_mine op (λ r. is_given p.ids.next r.id && (r.id == id))) p.rows (λ r k. implies_by (same_op op r.op) _ (λ j. both (is_given p.ids.next r.id) (r.id == id) (left (is_given p.ids.next r.id) _ k) (right (is_none r.kept && same_kind kind r.kind) _ (implied (same_op op r.op) _ (right (is_given p.ids.next r.id) _ k) j)))) (all_both (λ r. is_given p.ids.next r.id) (of_mine op (is_open kind id)) p.rows ids.rows opened))
+
+  taken_id : is_taken p.rows id ≡ true
+  taken_id = any_mine p.rows there opened
+    where
+      any_mine : (rows : List UpRow) → list_any (λ r. same_op op r.op) rows ≡ true → list_all (of_mine op (is_open kind id)) rows ≡ true → is_taken rows id ≡ true
+      any_mine [] i j = absurd (let bad : false ≡ true = i in cc)
+      any_mine (x ∷ rows) i j = or_elim (same_op op x.op) (list_any (λ r. same_op op r.op) rows) (λ y. or_left (x.id == id) _ (right (is_none x.kept && same_kind kind x.kind) _ (implied (same_op op x.op) _ (left (of_mine op (is_open kind id) x) _ j) y))) (λ y. or_right (x.id == id) _ (any_mine rows y (right (of_mine op (is_open kind id) x) _ j))) i
+
+  below : nat_lt id p.ids.next ≡ true
+  below = ap (λ i. nat_lt i p.ids.next) (sym (same_number row.0.id id (right (is_given p.ids.next row.0.id) _ row.1))) ∙ right (nat_lt 0 row.0.id) _ (left (is_given p.ids.next row.0.id) _ row.1)
+
+  -- so no entry gives it
+  pub other_id : (v : What) → has_right_id p.ids v ≡ true → passes (λ g. g == id) (given_id v) ≡ false
+  other_id (what.Sent i o rest) k = false_by (i == id) (λ j. sym (untaken s place p ids) ∙ ap (is_taken p.rows) (sym (same_number i (id_for p.ids) k) ∙ same_number i id j) ∙ taken_id)
+  other_id (what.Own i rest) k = false_by (i == id) (λ j. let next : i ≡ p.ids.next = same_number i p.ids.next k in let same : i ≡ id = same_number i id j in let low : nat_lt id p.ids.next ≡ true = below in absurd (grind (arith, nat_tests, low, next, same)))
+  other_id _ k = refl
 
 module _ (s : Settings) (u : ℕ) (op : OpName) where
   module _ (kind : OpKind) (id : ℕ) (req : Message) (kind_req : kind_of req.rest ≡ Some kind) where
@@ -51,30 +73,9 @@ module _ (s : Settings) (u : ℕ) (op : OpName) where
             (next.0, reigns m ms g ∙ ap (λ o. with_later req o (answered_by ms)) a ∙ next.1 ∙ ap (λ l. l ++ next.0) (sym (told_later s u op p m ms e)))
 
         -- an entry that is no message
-        own_id : (w : What) → m.entry.what ≡ w → list_any (λ r. same_op op r.op) p.rows ≡ true → gives_id id m.entry ≡ false
-        own_id w e t = ap (λ v. passes (λ g. g == id) (given_id v)) e ∙ by w (ap (has_right_id p.ids) (sym e) ∙ rs.0.id_right)
-          where
-            row : (r : UpRow) × ((is_given p.ids.next r.id && (r.id == id)) ≡ true)
-            row = one_mine op (λ r. is_given p.ids.next r.id && (r.id == id)) p.rows t (all_imply (λ r. is_given p.ids.next r.id && of_mine op (is_open kind id) r) (of_mine op (λ r. is_given p.ids.next r.id && (r.id == id))) p.rows (λ r k. implies_by (same_op op r.op) _ (λ j. both (is_given p.ids.next r.id) (r.id == id) (left (is_given p.ids.next r.id) _ k) (right (is_none r.kept && same_kind kind r.kind) _ (implied (same_op op r.op) _ (right (is_given p.ids.next r.id) _ k) j)))) (all_both (λ r. is_given p.ids.next r.id) (of_mine op (is_open kind id)) p.rows at.ids.rows h))
-
-            taken_id : is_taken p.rows id ≡ true
-            taken_id = any_mine p.rows t h
-              where
-                any_mine : (rows : List UpRow) → list_any (λ r. same_op op r.op) rows ≡ true → list_all (of_mine op (is_open kind id)) rows ≡ true → is_taken rows id ≡ true
-                any_mine [] i j = absurd (let bad : false ≡ true = i in cc)
-                any_mine (x ∷ rows) i j = or_elim (same_op op x.op) (list_any (λ r. same_op op r.op) rows) (λ y. or_left (x.id == id) _ (right (is_none x.kept && same_kind kind x.kind) _ (implied (same_op op x.op) _ (left (of_mine op (is_open kind id) x) _ j) y))) (λ y. or_right (x.id == id) _ (any_mine rows y (right (of_mine op (is_open kind id) x) _ j))) i
-
-            below : nat_lt id p.ids.next ≡ true
-            below = ap (λ i. nat_lt i p.ids.next) (sym (same_number row.0.id id (right (is_given p.ids.next row.0.id) _ row.1))) ∙ right (nat_lt 0 row.0.id) _ (left (is_given p.ids.next row.0.id) _ row.1)
-
-            by : (v : What) → has_right_id p.ids v ≡ true → passes (λ g. g == id) (given_id v) ≡ false
-            by (what.Sent i o rest) k = false_by (i == id) (λ j. sym (untaken s (entries b) p at.ids) ∙ ap (is_taken p.rows) (sym (same_number i (id_for p.ids) k) ∙ same_number i id j) ∙ taken_id)
-            by (what.Own i rest) k = false_by (i == id) (λ j. let next : i ≡ p.ids.next = same_number i p.ids.next k in let same : i ≡ id = same_number i id j in let low : nat_lt id p.ids.next ≡ true = below in absurd (grind (arith, nat_tests, low, next, same)))
-            by _ k = refl
-
         idle : (w : What) → m.entry.what ≡ w → is_none (got_message w) ≡ true → list_any (λ r. same_op op r.op) p.rows ≡ true → Begins (answered_by (m ∷ ms)) (gave s u op p (m ∷ ms))
         idle w e g t =
-            later (own_id w e t) (ap (λ v. answer_by_entry (got_message v)) e ∙ no_answer (got_message w) g)
+            later (ap (λ v. passes (λ g. g == id) (given_id v)) e ∙ other_id s op kind id (entries b) p at.ids h t w (ap (has_right_id p.ids) (sym e) ∙ rs.0.id_right)) (ap (λ v. answer_by_entry (got_message v)) e ∙ no_answer (got_message w) g)
             (quiet_told op (connection_letters s p m.entry.at m.mark m.entry.what) (others_quiet op s p m.entry.at m.mark m.entry.what (ap (λ v. is_none (got_message v)) e ∙ g)))
             (others_stay op (is_open kind id) (open_stays op kind id) s m.entry m.mark p m.entry.what (ap (λ v. is_none (got_message v)) e ∙ g) (left (not (is_sent op m.entry)) _ n) (marked_so s u op p m rs.0.marked) h)
           where

@@ -47,15 +47,10 @@ module _ (s : Settings) (u : ℕ) (op : OpName) where
   pub nothing_told : (b : List Marked) (p : ConnectionState) (ms : List Marked) → Rights s u b p ms → NoSent ms → list_all (λ r. not (same_op op r.op)) p.rows ≡ true → gave p ms ≡ []
   nothing_told b p ms r n h = quiet_told op (connection_gives s p ms) (gives_quiet op s p ms n (marks_of s u b p ms r) h)
 
-  -- behind a bad message stands the end, so that nothing is told any more
-  pub bad_silent : (b : List Marked) (p : ConnectionState) (m : Marked) (ms : List Marked) (id : ℕ) (rest : List ℕ) → At s u (entries b) p → Right s u b p m ms → Rights s u (b ++ m ∷ []) (step_connection s p m) ms → NoSent ms → m.entry.what ≡ what.Got id rest → is_bad (message_facts p) (record { id = id; rest = rest }) ≡ true → gave p (m ∷ ms) ≡ []
-  bad_silent b p m ms id rest at r rs n e bad =
-      told_both op (connection_letters s p m.entry.at m.mark m.entry.what) (connection_gives s (step_connection s p m) ms)
-      ∙ ap (λ l. l ++ gave (step_connection s p m) ms) letters ∙ behind ms ends rs n
+  -- behind a bad message stands the end
+  pub bad_ends : (b : List Marked) (p : ConnectionState) (m : Marked) (ms : List Marked) (id : ℕ) (rest : List ℕ) → At s u (entries b) p → Right s u b p m ms → m.entry.what ≡ what.Got id rest → is_bad (message_facts p) (record { id = id; rest = rest }) ≡ true → first_passes (is_down_by BadEnd) (entries ms) ≡ true
+  bad_ends b p m ms id rest at r e bad = implied (passes (is_bad (message_facts p)) (got_message m.entry.what) && is_there p && not (is_holding p)) _ r.bad (both (passes (is_bad (message_facts p)) (got_message m.entry.what) && is_there p) _ (both (passes (is_bad (message_facts p)) (got_message m.entry.what)) (is_there p) (ap (λ w. passes (is_bad (message_facts p)) (got_message w)) e ∙ bad) (both p.linked (not p.down) linked (ap not up))) (ap not flows))
     where
-      letters : told op (connection_letters s p m.entry.at m.mark m.entry.what) ≡ []
-      letters = ap (λ w. told op (connection_letters s p m.entry.at m.mark w)) e ∙ ap (λ d. told op (letters_alone (elim d [ true ↦ goes_down p BadEnd | false ↦ elim p.kind [ Regular ↦ answered p m.entry.at (record { id = id; rest = rest }) | BindKind ↦ bind_answered s p (record { id = id; rest = rest }) ] ]))) bad
-
       linked : p.linked ≡ true
       linked = by p.linked (is_linked m.entry.what) (is_empty (entries b)) (left (agrees (is_linked m.entry.what) (is_empty (entries b))) _ (left (agrees (is_linked m.entry.what) (is_empty (entries b)) && implies (list_any is_down (entries b)) (may_follow_down m.entry.what)) _ r.life)) (ap is_linked e) at.begins
         where
@@ -81,8 +76,14 @@ module _ (s : Settings) (u : ℕ) (op : OpName) where
           by true false i = refl
           by false y i = refl
 
-      ends : first_passes (is_down_by BadEnd) (entries ms) ≡ true
-      ends = implied (passes (is_bad (message_facts p)) (got_message m.entry.what) && is_there p && not (is_holding p)) _ r.bad (both (passes (is_bad (message_facts p)) (got_message m.entry.what) && is_there p) _ (both (passes (is_bad (message_facts p)) (got_message m.entry.what)) (is_there p) (ap (λ w. passes (is_bad (message_facts p)) (got_message w)) e ∙ bad) (both p.linked (not p.down) linked (ap not up))) (ap not flows))
+  -- so that nothing is told any more
+  pub bad_silent : (b : List Marked) (p : ConnectionState) (m : Marked) (ms : List Marked) (id : ℕ) (rest : List ℕ) → At s u (entries b) p → Right s u b p m ms → Rights s u (b ++ m ∷ []) (step_connection s p m) ms → NoSent ms → m.entry.what ≡ what.Got id rest → is_bad (message_facts p) (record { id = id; rest = rest }) ≡ true → gave p (m ∷ ms) ≡ []
+  bad_silent b p m ms id rest at r rs n e bad =
+      told_both op (connection_letters s p m.entry.at m.mark m.entry.what) (connection_gives s (step_connection s p m) ms)
+      ∙ ap (λ l. l ++ gave (step_connection s p m) ms) letters ∙ behind ms (bad_ends b p m ms id rest at r e bad) rs n
+    where
+      letters : told op (connection_letters s p m.entry.at m.mark m.entry.what) ≡ []
+      letters = ap (λ w. told op (connection_letters s p m.entry.at m.mark w)) e ∙ ap (λ d. told op (letters_alone (elim d [ true ↦ goes_down p BadEnd | false ↦ elim p.kind [ Regular ↦ answered p m.entry.at (record { id = id; rest = rest }) | BindKind ↦ bind_answered s p (record { id = id; rest = rest }) ] ]))) bad
 
       behind : (ds : List Marked) → first_passes (is_down_by BadEnd) (entries ds) ≡ true → Rights s u (b ++ m ∷ []) (step_connection s p m) ds → NoSent ds → gave (step_connection s p m) ds ≡ []
       behind [] i j k = absurd (let bad' : false ≡ true = i in cc)

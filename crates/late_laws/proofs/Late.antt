@@ -78,7 +78,7 @@ module _ (s : Settings) (c : ℕ) where
   lates_own place l [] h g f = refl
   lates_own place l (m ∷ ms) h g f = both (is_late_own c place m.entry) _ (entry_own place l h m.entry m.mark _ (λ i. (g.0 i).marked) f) (lates_own (place ++ m.entry ∷ []) (step_client_ledger s l m) ms (at_more place l m h) g.1 (right (not (is_unfit (fits_client s) l m.mark)) _ f))
 
-pub client_lates : (s : Settings) (F : Family) (marked : PartName → List Marked) → Joined s F marked → (c : ℕ) → each_split_from (λ b e r. is_late_own c b e) [] (entries (marked (Client c))) ≡ true
+client_lates : (s : Settings) (F : Family) (marked : PartName → List Marked) → Joined s F marked → (c : ℕ) → each_split_from (λ b e r. is_late_own c b e) [] (entries (marked (Client c))) ≡ true
 client_lates s F marked h c = lates_own s c [] (empty_client_ledger c) (marked (Client c)) (record { says = (nothing_kept s c).says; count = refl; rows = tt; expected = tt }) (begun s c (marked (Client c)) (h.shared.shares (Client c))) (h.fit (Client c))
 
 pub all_own : LatesAreOwn

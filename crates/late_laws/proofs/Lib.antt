@@ -1,6 +1,3 @@
 mod Settles
-mod Successes
+pub mod Successes
 mod Late
-mod Counts
-mod Timely
-mod Few

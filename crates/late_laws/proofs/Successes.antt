@@ -116,13 +116,13 @@ module _ (s : Settings) (o : Operation) (asks : asks_who s o ≡ true) where
       never false = refl
 
 -- of one at most, the one that passes is the first
-first_of_one : (t : Sending → Bool) (xs : List Sending) → nat_le (length xs) 1 ≡ true → list_any t xs ≡ true → passes t (first xs) ≡ true
+pub first_of_one : (t : Sending → Bool) (xs : List Sending) → nat_le (length xs) 1 ≡ true → list_any t xs ≡ true → passes t (first xs) ≡ true
 first_of_one t [] h k = k
 first_of_one t (x ∷ []) h k = or_elim (t x) false (λ j. j) (λ j. absurd (let bad : false ≡ true = j in cc)) k
 first_of_one t (x ∷ y ∷ xs) h k = absurd (grind (arith, nat_tests, h))
 
 -- a Sent of a connection is among all
-sent_among : (F : Family) → IsWhole F → (t : Sending → Bool) (u : ℕ) → list_any t (sendings u (F.connection u)) ≡ true → list_any t (all_sendings F) ≡ true
+pub sent_among : (F : Family) → IsWhole F → (t : Sending → Bool) (u : ℕ) → list_any t (sendings u (F.connection u)) ≡ true → list_any t (all_sendings F) ≡ true
 sent_among F whole t u h = by (list_any (λ n. n == u) F.connections) refl
   where
     at : (us : List ℕ) → list_any (λ n. n == u) us ≡ true → list_any t (sendings_at F us) ≡ true

@@ -50,11 +50,11 @@ use Rattle.told_laws.proofs.Sources.{forwarded_there, from_home, given_there, ho
 use Rattle.told_laws.proofs.Unknown.{bind_unknown, regular_unknown, tells_none}
 use Rattle.told_laws.proofs.Troubles.{failed_from, failed_mark, is_else, none_expired, none_of_letters, regular_else}
 
-any_named : (t : ℕ → Bool) (u : ℕ) (us : List ℕ) → list_any (λ n. n == u) us ≡ true → t u ≡ true → list_any t us ≡ true
+pub any_named : (t : ℕ → Bool) (u : ℕ) (us : List ℕ) → list_any (λ n. n == u) us ≡ true → t u ≡ true → list_any t us ≡ true
 any_named t u [] h k = absurd (let bad : false ≡ true = h in cc)
 any_named t u (n ∷ us) h k = or_elim (n == u) (list_any (λ m. m == u) us) (λ j. or_left (t n) _ (subst (λ v. t v ≡ true) (sym (same_number n u j)) k)) (λ j. or_right (t n) _ (any_named t u us j k)) h
 
-all_named : (t : ℕ → Bool) (u : ℕ) (us : List ℕ) → list_any (λ n. n == u) us ≡ true → list_all t us ≡ true → t u ≡ true
+pub all_named : (t : ℕ → Bool) (u : ℕ) (us : List ℕ) → list_any (λ n. n == u) us ≡ true → list_all t us ≡ true → t u ≡ true
 all_named t u [] h k = absurd (let bad : false ≡ true = h in cc)
 all_named t u (n ∷ us) h k = or_elim (n == u) (list_any (λ m. m == u) us) (λ j. subst (λ v. t v ≡ true) (same_number n u j) (left (t n) _ k)) (λ j. all_named t u us j (right (t n) _ k)) h
 
@@ -66,7 +66,7 @@ among_all F t c (n ∷ cs) h k =
     or_elim (n == c) (list_any (λ m. m == c) cs) (λ j. subst (λ v. list_all t (operations v (F.client v)) ≡ true) (same_number n c j) (left (list_all t (operations n (F.client n))) _ parts)) (λ j. among_all F t c cs j (right (list_all t (operations n (F.client n))) _ parts)) h
 
 -- what is so of all operations is so of the one of a name
-named_so : (F : Family) → IsWhole F → (t : Operation → Bool) (op : OpName) (o : Operation) → list_all t (operations_of F F.clients) ≡ true → operation F op ≡ Some o → t o ≡ true
+pub named_so : (F : Family) → IsWhole F → (t : Operation → Bool) (op : OpName) (o : Operation) → list_all t (operations_of F F.clients) ≡ true → operation F op ≡ Some o → t o ≡ true
 named_so F whole t op o h e = by (list_any (λ n. n == op.client) F.clients) refl
   where
     by : (b : Bool) → list_any (λ n. n == op.client) F.clients ≡ b → t o ≡ true

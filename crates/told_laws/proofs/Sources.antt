@@ -49,7 +49,7 @@ is_silent op x = not (of_operation op x)
 
 -- A connection gives no letter for an operation that wasn't forwarded to it.
 module _ (op : OpName) (s : Settings) where
-  entry_silent : (p : ConnectionState) (m : Marked) (ms : List Marked) → list_all (is_other op) p.rows ≡ true → not (is_missed op m.entry) ≡ true → is_expired_due s p m ms ≡ true → list_all (λ (x : Posted). is_silent op x.letter) (connection_letters s p m.entry.at m.mark m.entry.what) ≡ true
+  pub entry_silent : (p : ConnectionState) (m : Marked) (ms : List Marked) → list_all (is_other op) p.rows ≡ true → not (is_missed op m.entry) ≡ true → is_expired_due s p m ms ≡ true → list_all (λ (x : Posted). is_silent op x.letter) (connection_letters s p m.entry.at m.mark m.entry.what) ≡ true
   entry_silent p m ms h n due =
       letters_pass (is_silent op) s p m.entry.at m.mark m.entry.what (record {
         ended = λ o u late. refl;
@@ -71,7 +71,7 @@ module _ (op : OpName) (s : Settings) where
           by None f k = absurd (let bad : false ≡ true = k in cc)
           by (Some r) f k = ap (λ x. not (same_op op x)) (same_op_eq o r.op (found_passes (λ x. same_op o x.op) p.rows r f)) ∙ found (is_other op) (λ x. same_op o x.op) p.rows r f h
 
-  list_silent : (u : ℕ) (p : ConnectionState) (b ms : List Marked) → list_all (λ m. not (is_forwarded op m.entry)) ms ≡ true → each_from (step_connection s) has_connection_mark p ms ≡ true → each_place (step_connection s) (λ q c m d. is_expired_due s q m d) p b ms ≡ true → list_all (is_other op) p.rows ≡ true → list_all (λ (x : Posted). is_silent op x.letter) (connection_gives s p ms) ≡ true
+  pub list_silent : (u : ℕ) (p : ConnectionState) (b ms : List Marked) → list_all (λ m. not (is_forwarded op m.entry)) ms ≡ true → each_from (step_connection s) has_connection_mark p ms ≡ true → each_place (step_connection s) (λ q c m d. is_expired_due s q m d) p b ms ≡ true → list_all (is_other op) p.rows ≡ true → list_all (λ (x : Posted). is_silent op x.letter) (connection_gives s p ms) ≡ true
   list_silent u p b [] n k due h = refl
   list_silent u p b (m ∷ ms) n k due h =
       list_all-append (λ (x : Posted). is_silent op x.letter) (connection_letters s p m.entry.at m.mark m.entry.what) (connection_gives s (step_connection s p m) ms)
@@ -126,7 +126,7 @@ only_there op w u (x ∷ xs) h k =
     one (Connection v) i j = eq_eqb w u (same_number w v i ∙ sym (same_number u v j))
     one _ i j = absurd (let bad : false ≡ true = i in cc)
 
-any_or : {A : Type 0} (a d : A → Bool) (xs : List A) → list_any (λ x. a x || d x) xs ≡ true → (list_any a xs || list_any d xs) ≡ true
+pub any_or : {A : Type 0} (a d : A → Bool) (xs : List A) → list_any (λ x. a x || d x) xs ≡ true → (list_any a xs || list_any d xs) ≡ true
 any_or a d [] h = h
 any_or a d (x ∷ xs) h =
     or_elim (a x || d x) (list_any (λ y. a y || d y) xs)

@@ -1,0 +1,6 @@
+mod Counts
+mod Ended
+mod Canceled
+mod Unsent
+mod Owed
+mod Clause
