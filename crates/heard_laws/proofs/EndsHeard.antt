@@ -127,7 +127,7 @@ missed_took op p m h k = by m.entry.what m.mark h k
     by _ o i j = absurd (let bad : false ≡ true = j in cc)
 
 -- what the desk was asked it took
-abbrev is_asked_for : OpName → Entry → Bool
+abbrev pub is_asked_for : OpName → Entry → Bool
 is_asked_for op e = passes (λ a. same_op op a.op) (asked e.what)
 
 asked_took : (op : OpName) (ms : List Marked) → list_all has_desk_mark ms ≡ true → list_any (is_asked_for op) (entries ms) ≡ true → took (is_ask_of op) ms ≡ true
@@ -143,12 +143,12 @@ asked_took op (m ∷ ms) h k = or_elim (is_asked_for op m.entry) (list_any (is_a
     by (what.Asked o want) (Some t) i j = letter o want t.letter i j
     by _ o i j = absurd (let bad : false ≡ true = j in cc)
 
-last_asked : (op : OpName) (place : List Entry) → passes (λ a. same_op op a.op) (asked_last place) ≡ true → list_any (is_asked_for op) place ≡ true
+pub last_asked : (op : OpName) (place : List Entry) → passes (λ a. same_op op a.op) (asked_last place) ≡ true → list_any (is_asked_for op) place ≡ true
 last_asked op [] h = absurd (let bad : false ≡ true = h in cc)
 last_asked op (x ∷ []) h = or_left (is_asked_for op x) false h
 last_asked op (x ∷ y ∷ ys) h = or_right (is_asked_for op x) (list_any (is_asked_for op) (y ∷ ys)) (last_asked op (y ∷ ys) h)
 
-right_asked : (s : Settings) (place : List Entry) (w : ℕ) (c : Named Answer) (o : Option (Named Want)) → is_right_for s place w c o ≡ true → passes (λ a. same_op c.op a.op) o ≡ true
+pub right_asked : (s : Settings) (place : List Entry) (w : ℕ) (c : Named Answer) (o : Option (Named Want)) → is_right_for s place w c o ≡ true → passes (λ a. same_op c.op a.op) o ≡ true
 right_asked s place w c None h = absurd (let bad : false ≡ true = h in cc)
 right_asked s place w c (Some a) h = same_op_sym c.op a.op ∙ left (same_op a.op c.op) _ h
 

@@ -1,17 +1,15 @@
 -- A bind connection that retired and isn't down has a Bind open, or somebody holds it.
-use Rattle.std.proofs.Common.{◌≡◌, ◌⊎◌, inl, inr, ℕ, Bool, true, false, ◌==◌, ◌&&◌, ◌||◌, not, List, [], ◌∷◌, ◌++◌, length, refl, ap, ◌∙◌, sym, subst, append_assoc}
-use Rattle.std.specs.Prelude.{Option, Some, None, is_none, is_some, map, if◌then◌else◌}
+use Rattle.std.proofs.Common.{◌≡◌, ℕ, Bool, true, false, ◌==◌, ◌&&◌, ◌||◌, not, List, [], ◌∷◌, ◌++◌, length, refl, ap, ◌∙◌, sym, subst, append_assoc}
+use Rattle.std.specs.Prelude.{Option, Some, None, is_none, is_some, if◌then◌else◌}
 use Rattle.std.specs.List.{list_any}
 use Rattle.std.proofs.lemmas.List.{append-nil}
 use Rattle.ldap_spec.specs.Messages.{Message}
-use Rattle.lload_names.specs.declared.inputs.Input.{Input}
 use Rattle.lload_names.specs.declared.inputs.Input.TheVariants.{Message as MessageIn}
 use Rattle.lload_names.specs.declared.names.ConnKind.{ConnKind}
 use Rattle.lload_names.specs.declared.names.ConnKind.TheVariants.{Bind as BindKind, Regular}
 use Rattle.lload_names.specs.declared.names.EndWhy.TheVariants.{Drained}
 use Rattle.lload_names.specs.declared.names.Entry.{Entry}
 use Rattle.lload_names.specs.declared.names.OpName.{OpName}
-use Rattle.lload_names.specs.declared.names.PartName.{PartName}
 use Rattle.lload_names.specs.declared.names.PartName.TheVariants.{Desk, Up as Connection}
 use Rattle.lload_names.specs.declared.names.What.TheVariants as what
 use Rattle.lload_names.specs.declared.names.Letter.TheVariants.{IsDown}
@@ -22,13 +20,12 @@ use Rattle.lload_spec.specs.Entries.{is_down, is_linked, is_of_connection, is_re
 use Rattle.lload_spec.specs.Journal.{Family}
 use Rattle.lload_spec.specs.Lists.{agrees, each_split_from, implies, last, passes, where_there}
 use Rattle.lload_spec.specs.Settings.{Settings, is_kind, is_of_kind, place_at}
-use Rattle.lload_spec.specs.Settled.{is_retired_in_use}
 use Rattle.lload_spec.specs.Strict.{is_empty, lives_as_connection, may_follow_down}
 use Rattle.lload_spec.proofs.Growth.{left, right}
 use Rattle.lload_laws.proofs.ListLaws.{implies_by}
-use Rattle.part_laws.proofs.ListLaws.{false_by, not_true, or_left, or_right}
+use Rattle.part_laws.proofs.ListLaws.{not_true, or_left, or_right}
 use Rattle.part_laws.specs.Turns.{Comes, Event, list_from, made}
-use Rattle.part_spec.specs.BindTurn.{bind_rule, message}
+use Rattle.part_spec.specs.BindTurn.{message}
 use Rattle.part_spec.specs.ConnectionState.{ConnectionState, UpRow, empty_connection, is_there, step_connection}
 use Rattle.part_spec.specs.ConnectionTurn.{behind_act, is_drained, with_drained}
 use Rattle.part_spec.specs.Fit.{ConnectionLedger, are_fit_from, empty_connection_ledger, fits_connection, is_unfit, ledger_behind as behind, step_connection_ledger}
@@ -38,13 +35,11 @@ use Rattle.part_spec.specs.Marks.{each_from, has_connection_mark}
 use Rattle.part_spec.specs.RegularTurn.{regular_act}
 use Rattle.part_spec.specs.Share.{each_place, is_expired_due, is_sent_once}
 use Rattle.connection_laws.specs.Turns.{connection_event, connection_list}
-use Rattle.connection_laws.proofs.ConnectionSays.{UpSays}
 use Rattle.connection_laws.proofs.Permits.{push_entry}
 use Rattle.bind_laws.specs.Turns.{are_told_rightly, is_told_rightly}
 use Rattle.drained_laws.specs.Laws.{NoneComesDrained, is_undrained}
 use Rattle.joined_laws.proofs.Taken.{is_fit_there}
 use Rattle.caused_laws.specs.Laws.{BindConnectionsSay}
-use Rattle.carried_laws.specs.Laws.{Played}
 use Rattle.upstream_laws.proofs.BindEnds.{Comes as ComesHere, Here, here_step}
 use Rattle.upstream_laws.proofs.Ends.{nothing_here}
 use Rattle.upstream_laws.proofs.Answered.{Said}

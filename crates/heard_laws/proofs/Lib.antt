@@ -6,5 +6,5 @@ pub mod BindFrees
 pub mod BindPending
 pub mod AskedOrPinned
 pub mod BindHeard
-mod EndsHeard
+pub mod EndsHeard
 mod InUse

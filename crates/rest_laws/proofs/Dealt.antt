@@ -97,14 +97,14 @@ module _ (s : Settings) (ms : List PartMove) (played : Played s (family_of_run s
   abbrev w : World
   w = world_of s ms
 
-  standing : Standing s (book s ms) (world_of s ms)
+  pub standing : Standing s (book s ms) (world_of s ms)
   standing = (stood s ms).standing
 
   list_is : (p : PartName) → entries (list_in (world_of s ms) p) ≡ list_of (family_of_run s ms) p
   list_is p = played.joined.shared.same_entries p
 
   -- an operation that has a row at a connection was sent there
-  sent_there : (op : OpName) (u : ℕ) → list_any (λ r. same_op op r.op) (connection_ledger s u (list_in (world_of s ms) (Connection u))).state.rows ≡ true → list_any (is_sent op) ((family_of_run s ms).connection u) ≡ true
+  pub sent_there : (op : OpName) (u : ℕ) → list_any (λ r. same_op op r.op) (connection_ledger s u (list_in (world_of s ms) (Connection u))).state.rows ≡ true → list_any (is_sent op) ((family_of_run s ms).connection u) ≡ true
   sent_there op u k = subst (λ es. list_any (is_sent op) es ≡ true) (list_is (Connection u)) (row_was_sent op (entries (list_in w (Connection u))) (connection_ledger s u (list_in w (Connection u))).state.rows (rows_sent_there s [] (empty_connection_ledger s u) (list_in w (Connection u)) tt share.marks) k)
     where
       share : ConnectionShare s u (list_in (world_of s ms) (Connection u))
@@ -119,7 +119,7 @@ module _ (s : Settings) (ms : List PartMove) (played : Played s (family_of_run s
     numbers_are = ap (λ p. map (λ r. r.k) p.rows) (sym (client_here s w c (stood s ms).states) ∙ (stood s ms).states.clients c) ∙ subst (λ l. map (λ r. r.k) (client_of s c l).rows ≡ map (λ o. o.name.k) (live_operations c (entries l))) (played.clients c).same (client_rows s c (played.clients c).events)
 
     -- the live operations are those that are live in the machine
-    lives : Each (λ o. (standing.model.clients c).live o.name.k ≡ true) (live_operations c ((family_of_run s ms).client c))
+    pub lives : Each (λ o. (standing.model.clients c).live o.name.k ≡ true) (live_operations c ((family_of_run s ms).client c))
     lives = subst (λ es. Each (λ o. x.live o.name.k ≡ true) (live_operations c es)) (list_is (Client c)) (numbers_live (book s ms) c x (client_ledger_in s w c).state.rows (live_operations c (entries (list_in w (Client c)))) (each_row s (book s ms) c (client_ledger_in s w c) x (standing.stands.clients c).stands) numbers_are)
 
     -- so each was sent

@@ -31,7 +31,7 @@ answers_final false g false true d e = absurd (let bad : Some Rebound ≡ Some A
 answers_final false g false false true e = absurd (let bad : Some ClientGone ≡ Some Answered = e in cc)
 answers_final false g false false false e = absurd (let bad : None ≡ Some Answered = e in cc)
 
-final_out : (opened : Message) (since : List Entry) (e : Entry) → manner_of opened since e ≡ Some Answered → is_final_out opened since e ≡ true
+pub final_out : (opened : Message) (since : List Entry) (e : Entry) → manner_of opened since e ≡ Some Answered → is_final_out opened since e ≡ true
 final_out opened since e h = answers_final (is_final_out opened since e) (is_cancellation opened since e) (is_abandon_of opened e) (is_bind_in e) (is_gone e) h
 
 -- an Out under an identifier comes first of those under it
@@ -44,7 +44,7 @@ some_behind [] ys h = h
 some_behind (x ∷ xs) ys h = refl
 
 -- behind an operation that took its identifier no end is an answer
-none_answers : (opened : Message) (since es : List Entry) (x : Ending) → list_any (takes_id opened.id) since ≡ true → ending_from opened since es ≡ Some x → x.manner ≡ Answered → ⊥
+pub none_answers : (opened : Message) (since es : List Entry) (x : Ending) → list_any (takes_id opened.id) since ≡ true → ending_from opened since es ≡ Some x → x.manner ≡ Answered → ⊥
 none_answers opened since [] x t e a = let bad : None ≡ Some x = e in absurd (cc)
 none_answers opened since (y ∷ es) x t e a = by (manner_of opened since y) refl e (λ k. none_answers opened (since ++ y ∷ []) es x (any_before (takes_id opened.id) since (y ∷ []) t) k a)
   where

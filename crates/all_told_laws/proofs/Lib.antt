@@ -1,0 +1,11 @@
+pub mod Stays
+pub mod Wholes
+pub mod Opens
+pub mod Lasts
+pub mod Ended
+pub mod Canceled
+pub mod Chosen
+pub mod Answered
+pub mod Lives
+pub mod Stands
+pub mod AllTold
