@@ -1,24 +1,21 @@
 -- What the promises say, of every run of the parts, clause by clause.
 use Rattle.std.specs.Prelude.{◌≡◌, ℕ, true, List, [], IsTrue}
-use Rattle.std.specs.List.{list_all}
-use Rattle.lload_names.specs.declared.names.ConnKind.TheVariants.{Bind as BindKind, Regular}
+use Rattle.lload_names.specs.declared.names.ConnKind.TheVariants.{Regular}
 use Rattle.lload_names.specs.declared.names.PartName.TheVariants.{Client, Up as Connection}
 use Rattle.lload_spec.specs.Caused.{each_refusal_caused}
 use Rattle.lload_spec.specs.CausedUp.{each_bad_told, each_down_caused, each_expired_due}
 use Rattle.lload_spec.specs.Identifiers.{each_id_right}
 use Rattle.lload_spec.specs.Lists.{each_entry}
 use Rattle.lload_spec.specs.OneEach.{each_own_reasoned}
-use Rattle.lload_spec.specs.Owed.{is_idle_owed}
 use Rattle.lload_spec.specs.Pauses.{pausing_at}
 use Rattle.lload_spec.specs.Settings.{Settings, is_of_kind}
-use Rattle.lload_spec.specs.Settled.{each_end_heard, each_pause_settled}
-use Rattle.lload_spec.specs.Strict.{each_connection_lives, each_connection_placed, each_latency_right, each_out_chosen, each_pause_owed, each_success_known, is_late_own, the_desk_lives}
+use Rattle.lload_spec.specs.Settled.{each_end_heard, each_leave_told, each_pause_settled}
+use Rattle.lload_spec.specs.Strict.{each_connection_lives, each_connection_placed, each_idle_owed, each_late_owed, each_latency_right, each_out_chosen, each_pause_owed, each_success_known, the_desk_lives}
 use Rattle.part_spec.specs.ClientState.{client_of}
 use Rattle.part_spec.specs.Merge.{PartMove, world_of}
 use Rattle.part_spec.specs.World.{list_in}
 use Rattle.link_laws.specs.Moves.{end_rightly}
 use Rattle.rows_laws.specs.Laws.{RowsAreOpen}
-use Rattle.leave_laws.specs.Laws.{is_idle_of_left}
 use Rattle.run_laws.specs.Runs.{family_of_run}
 
 -- Of connections.
@@ -66,18 +63,10 @@ RunsLiveAsConnections =
     (s : Settings) (ms : List PartMove) → IsTrue (end_rightly ms)
     → IsTrue (each_connection_lives s (family_of_run s ms))
 
--- each Drop that comes to nothing on a regular connection is owed
-abbrev pub RunsOweRegularIdles : Type 0
-RunsOweRegularIdles =
-    (s : Settings) (ms : List PartMove) → IsTrue (end_rightly ms) → (u : ℕ) → is_of_kind s Regular u ≡ true
-    → IsTrue (each_entry (is_idle_owed s (family_of_run s ms) u) ((family_of_run s ms).connection u))
-
--- each Leave that comes to nothing is of a Bind that was forwarded to its connection, which was chosen for it, and its
--- client left the connection
-abbrev pub RunsLeaveBindIdles : Type 0
-RunsLeaveBindIdles =
-    (s : Settings) (ms : List PartMove) → IsTrue (end_rightly ms) → (u : ℕ) → is_of_kind s BindKind u ≡ true
-    → IsTrue (each_entry (is_idle_of_left (family_of_run s ms) u) ((family_of_run s ms).connection u))
+-- each Drop and each Leave that comes to nothing is owed
+abbrev pub RunsOweIdles : Type 0
+RunsOweIdles =
+    (s : Settings) (ms : List PartMove) → IsTrue (end_rightly ms) → IsTrue (each_idle_owed s (family_of_run s ms))
 
 -- Of the desk.
 
@@ -96,6 +85,14 @@ abbrev pub RunsHearEachEnd : Type 0
 RunsHearEachEnd =
     (s : Settings) (ms : List PartMove) → IsTrue (end_rightly ms) → (world_of s ms).letters ≡ []
     → IsTrue (each_end_heard s (family_of_run s ms))
+
+-- Of exchanges.
+
+-- where nothing waits, no client that left its exchange holds a connection
+abbrev pub RunsTellLeaves : Type 0
+RunsTellLeaves =
+    (s : Settings) (ms : List PartMove) → IsTrue (end_rightly ms) → (world_of s ms).letters ≡ []
+    → IsTrue (each_leave_told s (family_of_run s ms))
 
 -- Of pauses.
 
@@ -134,8 +131,8 @@ abbrev pub RunsTellIdentities : Type 0
 RunsTellIdentities =
     (s : Settings) (ms : List PartMove) → IsTrue (end_rightly ms) → IsTrue (each_success_known s (family_of_run s ms))
 
--- each letter that comes too late is of an operation of the client's own
-abbrev pub RunsOwnLateLetters : Type 0
-RunsOwnLateLetters =
-    (s : Settings) (ms : List PartMove) → IsTrue (end_rightly ms)
-    → IsTrue (list_all (λ c. each_entry (is_late_own c) ((family_of_run s ms).client c)) (family_of_run s ms).clients)
+-- each letter that comes too late is of an operation of the client's own, and was given: such letters and what the client
+-- got, but for the answer to a Cancel that ended the operation, are no more than what it was given
+abbrev pub RunsOweLateLetters : Type 0
+RunsOweLateLetters =
+    (s : Settings) (ms : List PartMove) → IsTrue (end_rightly ms) → IsTrue (each_late_owed s (family_of_run s ms))

@@ -8,5 +8,5 @@ returns c = record {
   choices = λ s ms k. c.a_client_is_told_nothing_before_the_choice.ensures s (family_of_run s ms) (list_in (world_of s ms)) (c.parts_are_played_in_runs.ensures s ms k);
   refusals = λ s ms k. c.a_refusal_has_its_cause.ensures s (family_of_run s ms) (list_in (world_of s ms)) (c.parts_are_played_in_runs.ensures s ms k);
   identities = λ s ms k. c.a_kept_success_goes_out_with_its_identity.ensures s (family_of_run s ms) (list_in (world_of s ms)) (c.parts_are_played_in_runs.ensures s ms k);
-  late = λ s ms k. c.a_late_letter_is_of_its_clients_own.ensures s (family_of_run s ms) (list_in (world_of s ms)) (c.parts_are_played_in_runs.ensures s ms k).joined;
+  owed = λ s ms k. c.late_letters_are_owed.ensures s (family_of_run s ms) (list_in (world_of s ms)) (c.parts_are_played_in_runs.ensures s ms k);
 }

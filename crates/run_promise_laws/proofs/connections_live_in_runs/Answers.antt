@@ -7,6 +7,5 @@ pub returns : goal.returns
 returns c = record {
   places = λ s ms k. c.connections_with_entries_have_places.ensures s (family_of_run s ms) (list_in (world_of s ms)) (c.parts_are_played_in_runs.ensures s ms k);
   life = λ s ms k. c.connections_live.ensures s (family_of_run s ms) (list_in (world_of s ms)) (c.parts_are_played_in_runs.ensures s ms k);
-  idle = λ s ms k u kind. c.a_drop_that_comes_to_nothing_is_owed.ensures s (family_of_run s ms) (list_in (world_of s ms)) (c.parts_are_played_in_runs.ensures s ms k) u kind;
-  left = λ s ms k u kind. c.a_leave_that_comes_to_nothing_is_of_a_client_that_left.ensures s (family_of_run s ms) (list_in (world_of s ms)) (c.parts_are_played_in_runs.ensures s ms k) u kind;
+  idle = λ s ms k. c.each_idle_is_owed.ensures s (family_of_run s ms) (list_in (world_of s ms)) (c.parts_are_played_in_runs.ensures s ms k);
 }
