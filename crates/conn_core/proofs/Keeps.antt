@@ -1,11 +1,13 @@
 -- What is kept beside the view, where a row comes, goes or is answered.
-use Rattle.std.proofs.Common.{◌≡◌, ◌<◌, ◌^◌, ℕ, ◌+◌, ◌*◌, ◌≤◌, Bool, true, false, if◌then◌else◌, List, [], ◌∷◌, length, Some, None, arith, refl, ap, ◌∙◌, sym, subst}
+use Rattle.std.proofs.Common.{◌≡◌, ◌<◌, ◌^◌, ℕ, ◌+◌, ◌*◌, ◌≤◌, Bool, true, false, if◌then◌else◌, List, [], ◌∷◌, length, Some, None, arith, ap, ◌∙◌, sym, subst}
 use Rattle.std.specs.BTreeMap.{insert_entry, is_at}
 use Rattle.std.specs.Map.{remove_entry, set_value}
 use Rattle.std.specs.Ordering.{nat_cmp}
 use Rattle.lload_names.specs.declared.names.Entry.{Entry}
 use Rattle.lload_names.specs.declared.names.Posted.{Posted}
 use Rattle.std.specs.Prelude.{IfSome}
+use Rattle.std.specs.List.{AllByRecursion}
+use Rattle.op_deadlines.specs.Due.{is_due, all_due}
 use Rattle.lload_names.specs.declared.names.OpName.{OpName}
 use Rattle.lload_names.specs.Same.{same_op}
 use Rattle.outbox.specs.Room.{Room}
@@ -32,6 +34,20 @@ small-step op low next (r ∷ rs) l h = by (same_op r.op op) (small-step op (r.i
 -- identifiers stand in a message
 pub small-id : (op : OpName) (t : Table) → IsTable t → IfSome (id_of op t.rows) (λ id. id < 2 ^ 31)
 small-id op t h = small-step op 1 t.ids.next t.rows (omega (arith, h.fits, h.most)) h.rises
+
+small-kept : (b : Bool) (id : ℕ) (ids : List ℕ) → id < 2 ^ 31 → AllByRecursion (λ i. i < 2 ^ 31) ids → AllByRecursion (λ i. i < 2 ^ 31) (if b then id ∷ ids else ids)
+small-kept true id ids l h = (l, h)
+small-kept false id ids l h = h
+
+small-among : (low next : ℕ) (timeout now : ℕ) (rows : List Row) → next ≤ 2 ^ 31 → Rises low rows next → AllByRecursion (λ id. id < 2 ^ 31) (all_due timeout now (moments_of rows))
+small-among low next timeout now [] l h = tt
+small-among low next timeout now (r ∷ rs) l h =
+    let few = rises-length (r.id + 1) next rs h.1 in
+    small-kept (is_due timeout now r.last) r.id (all_due timeout now (moments_of rs)) (omega (arith, few, l)) (small-among (r.id + 1) next timeout now rs l h.1)
+
+-- and so do those of what is due
+pub small-due : (timeout now : ℕ) (t : Table) → IsTable t → AllByRecursion (λ id. id < 2 ^ 31) (all_due timeout now (moments_of t.rows))
+small-due timeout now t h = small-among 1 t.ids.next timeout now t.rows (omega (arith, h.fits, h.most)) h.rises
 
 module _ {d : Bool} {t : Table} {ms : List (ℕ × ℕ)} {e : Room Entry} {l : Room Posted} (k : IsKept d t ms e l) where
   pub kept-gone : (id : ℕ) (u : Table) (ns : List (ℕ × ℕ)) → IsTable u → u.rows ≡ without id t.rows → ns ≡ remove_entry (is_at (nat_cmp id)) ms → IsKept d u ns e l

@@ -1,9 +1,10 @@
 -- The rows of a table, where one comes, goes or is answered.
-use Rattle.std.proofs.Common.{◌≡◌, ℕ, suc, ◌+◌, ◌≤◌, ◌<◌, Bool, true, false, ◌==◌, if◌then◌else◌, List, [], ◌∷◌, length, Option, Some, None, arith, refl, ap, ◌∙◌, sym}
+use Rattle.std.proofs.Common.{◌≡◌, ℕ, ◌+◌, ◌≤◌, Bool, true, false, ◌==◌, if◌then◌else◌, List, [], ◌∷◌, length, Option, Some, None, arith, refl, ap, ◌∙◌, sym}
 use Rattle.std.proofs.lemmas.Bool.Decides.{nat_tests}
 use Rattle.std.specs.Prelude.{nat_lt}
 use Rattle.std.specs.List.{AllByRecursion}
-use Rattle.lload_spec.specs.Identifiers.{id_for, with_freed}
+use Rattle.lload_spec.specs.Identifiers.{Ids, id_for, with_freed}
+use Rattle.id_table.specs.Given.{AreIds}
 use Rattle.id_table.specs.declared.row.Row.{Row}
 use Rattle.id_table.specs.Rows.{row_of, put, without, changed, Rises}
 use Rattle.id_table.specs.Table.{Table, IsTable, finished_at}
@@ -70,3 +71,18 @@ finished-rows id t = by (row_of id t.rows) refl
     by : (o : Option Row) → row_of id t.rows ≡ o → (finished_at id t).rows ≡ without id t.rows
     by None h = ap (λ (o : Option Row). let u : Table = elim o [ None ↦ t | Some r ↦ record t { rows = without id t.rows; ids = with_freed (id ∷ []) t.ids } ] in u.rows) h ∙ sym (without-none id t.rows h)
     by (Some r) h = ap (λ (o : Option Row). let u : Table = elim o [ None ↦ t | Some r ↦ record t { rows = without id t.rows; ids = with_freed (id ∷ []) t.ids } ] in u.rows) h
+
+pub finished-next : (id : ℕ) (t : Table) → (finished_at id t).ids.next ≡ t.ids.next
+finished-next id t = by (row_of id t.rows) refl
+  where
+    by : (o : Option Row) → row_of id t.rows ≡ o → (finished_at id t).ids.next ≡ t.ids.next
+    by None h = ap (λ (o : Option Row). let u : Table = elim o [ None ↦ t | Some r ↦ record t { rows = without id t.rows; ids = with_freed (id ∷ []) t.ids } ] in u.ids.next) h
+    by (Some r) h = ap (λ (o : Option Row). let u : Table = elim o [ None ↦ t | Some r ↦ record t { rows = without id t.rows; ids = with_freed (id ∷ []) t.ids } ] in u.ids.next) h
+
+-- the first free identifier isn't beyond the next
+pub first-le : (i : Ids) → AreIds i → id_for i ≤ i.next
+first-le i a = by i.next i.free a
+  where
+    by : (next : ℕ) (free : List ℕ) → AreIds (record { next = next; free = free }) → id_for (record { next = next; free = free }) ≤ next
+    by next [] a = omega arith
+    by next (id ∷ ids) a = omega (arith, a.given.0.1)

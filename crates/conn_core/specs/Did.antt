@@ -1,7 +1,5 @@
 -- What a rule made of a connection, by its definition.
 use Rattle.std.specs.Prelude.{◌≡◌, ◌++◌, ℕ, Option}
-use Rattle.lload_names.specs.declared.names.Entry.{Entry}
-use Rattle.lload_names.specs.declared.names.Posted.{Posted}
 use Rattle.lload_names.specs.declared.names.PartName.TheVariants.{Up as Connection}
 use Rattle.lload_spec.specs.Settings.{Settings}
 use Rattle.part_spec.specs.Marked.{Taken}

@@ -3,12 +3,13 @@ ghost use Rattle.id_table.specs.Table.{IsTable};
 ghost use Rattle.conn_core.specs.Kept.{moments_of};
 ghost use Rattle.conn_core.specs.Closing.{lost_letters, row_loss};
 
-use id_table::{IdTable, Row};
+use crate::counted::CountedTable;
+use id_table::Row;
 use lload_names::{ConnKind, Letter, PartName, Posted, Refusal};
 use outbox::Outbox;
 
 /// Takes out each row by rising identifier, and gives the letters of its loss, for which there is room.
-pub(crate) fn lose_all(table: &mut IdTable, number: u32, kind: ConnKind, out: &mut Outbox)
+pub(crate) fn lose_all(table: &mut CountedTable, number: u32, kind: ConnKind, out: &mut Outbox)
     requires { 2 * length table.old.rows ≤ out.old.letters.spare }
     ensures table { table.new ≡ record table.old { rows = [] } }
     ensures sound { IsTable table.new }

@@ -1,22 +1,22 @@
-ghost use Rattle.std.specs.Prelude.{◌≡◌, ◌==◌, ◌≤◌, ◌<◌, ◌^◌, ◌+◌, ◌*◌, ◌++◌, ◌∷◌, [], max, true, false, length, map, filter, IfSome, IfOk, OnOk, OnErr, MatchOption};
+ghost use Rattle.std.specs.Prelude.{◌≡◌, ◌==◌, ◌&&◌, nat_lt, ◌≤◌, ◌<◌, ◌^◌, ◌+◌, ◌*◌, ◌++◌, ◌∷◌, [], max, true, false, length, map, filter, IfSome, IfOk, OnOk, OnErr, MatchOption};
+ghost use Rattle.std.specs.List.{AllByRecursion};
 ghost use Rattle.std.specs.Option.{option_copied};
 ghost use Rattle.lload_spec.specs.Identifiers.{id_for};
-ghost use Rattle.id_table.specs.Rows.{row_of, id_of};
+ghost use Rattle.id_table.specs.Rows.{row_of, id_of, first_id};
 ghost use Rattle.id_table.specs.Table.{gave, used_up, touched_at, kept_at, ended_at, finished_at, passes_limit, may_own, IsTable};
 ghost use Rattle.op_deadlines.specs.Due.{is_due};
 ghost use Rattle.lload_names.specs.declared.names.PartName.TheVariants.{Up};
 ghost use Rattle.lload_names.specs.declared.names.What.TheVariants.{Down};
 ghost use Rattle.conn_core.specs.Conn.{new_conn};
-ghost use Rattle.conn_core.specs.Closing.{closing_letters, given_whats, retired_letters};
-ghost use Rattle.lload_names.specs.declared.names.PartName.TheVariants.{Desk, Client};
-ghost use Rattle.part_spec.specs.Inputs.{entries_of, to};
+ghost use Rattle.conn_core.specs.Closing.{closing_letters};
 
 use crate::closing::lose_all;
-use id_table::{IdTable, Kept, Row};
+use crate::counted::CountedTable;
+use crate::timed::Timed;
+use id_table::{Kept, Row};
 use lload_names::{
     ConnKind, EndWhy, Entry, Letter, NoMemory, OpKind, OpName, PartName, Posted, What,
 };
-use op_deadlines::Deadlines;
 use outbox::Outbox;
 use std::alloc::Global;
 use std::marker::Model;
@@ -31,8 +31,8 @@ pub struct ConnCore {
     linked: bool,
     up: bool,
     down: bool,
-    table: IdTable,
-    deadlines: Deadlines,
+    table: CountedTable,
+    deadlines: Timed,
     room: Outbox,
     alloc: Global,
 }
@@ -64,7 +64,7 @@ impl ConnCore {
     {
         let mut room = Outbox::new(alloc);
         room.reserve(1, 2)?;
-        let table = IdTable::new(alloc, limit)?;
+        let table = CountedTable::new(alloc, limit)?;
         Ok(ConnCore {
             number,
             kind,
@@ -73,7 +73,7 @@ impl ConnCore {
             up: false,
             down: false,
             table,
-            deadlines: Deadlines::new(alloc, timeout),
+            deadlines: Timed::new(alloc, timeout),
             room,
             alloc,
         })
@@ -121,12 +121,26 @@ impl ConnCore {
         self.table.limit() == id
     }
 
+    /// Whether an identifier was given.
+    pub fn was_given(&self, id: u32) -> bool
+        ensures { result ≡ (nat_lt 0 id && nat_lt id self.now.table.ids.next) }
+    {
+        self.table.was_given(id)
+    }
+
     /// How many operations are live.
     pub fn len(&self) -> usize
         ensures len { result ≡ length self.now.table.rows }
         ensures small { result < 2 ^ 32 }
     {
         self.table.len()
+    }
+
+    /// The lowest identifier under which an operation is live.
+    pub fn first(&self) -> Option<u32>
+        ensures { result ≡ first_id self.now.table.rows }
+    {
+        self.table.first()
     }
 
     /// The live operation under an identifier.
@@ -136,7 +150,7 @@ impl ConnCore {
         self.table.row(id)
     }
 
-    /// The lowest identifier under which an operation is live.
+    /// The lowest identifier under which this operation is live.
     pub fn find(&self, op: OpName) -> Option<u32>
         ensures lowest { result ≡ id_of op self.now.table.rows }
         ensures small { IfSome result (λ id. id < 2 ^ 31) }
@@ -253,9 +267,17 @@ impl ConnCore {
 
     /// The identifiers of the operations that are due at a moment, in order.
     pub fn all_due(&self, at: u64) -> Result<Vec<u32>, NoMemory>
-        ensures { IfOk result (λ due. due.items ≡ map (λ r. r.id) (filter (λ r. is_due self.now.timeout at r.last) self.now.table.rows)) }
+        ensures due { IfOk result (λ due. due.items ≡ map (λ r. r.id) (filter (λ r. is_due self.now.timeout at r.last) self.now.table.rows)) }
+        ensures small { IfOk result (λ due. AllByRecursion (λ id. id < 2 ^ 31) due.items) }
     {
         self.deadlines.all_due(at)
+    }
+
+    /// Whether what is counted from a moment is due at another one.
+    pub fn is_past(&self, since: u64, at: u64) -> bool
+        ensures { result ≡ is_due self.now.timeout at since }
+    {
+        self.deadlines.is_past(since, at)
     }
 
     /// Makes room in an outbox for the connection's end, and for so many entries and letters beside it.
@@ -327,70 +349,5 @@ impl ConnCore {
         self.down = true;
         self.close(at, why, holder, &mut out);
         out
-    }
-
-    /// Puts an entry of its list, for which there is room.
-    pub fn put(&self, at: u64, what: What, out: &mut Outbox)
-        requires { 1 ≤ out.old.entries.spare }
-        ensures entries { out.new.entries.items ≡ out.old.entries.items ++ entries_of (Up self.now.number) at (what ∷ []) }
-        ensures entry_room { out.new.entries.spare + 1 ≡ out.old.entries.spare }
-        ensures letters { out.new.letters ≡ out.old.letters }
-    {
-        out.entries.put(Entry {
-            part: PartName::Up(self.number),
-            at,
-            what,
-        });
-    }
-
-    /// Puts an entry that gives an identifier, and that it is retired where this is the limit. There is room for both.
-    pub fn put_giving(&self, at: u64, id: u32, what: What, out: &mut Outbox)
-        requires { 2 ≤ out.old.entries.spare }
-        ensures entries { out.new.entries.items ≡ out.old.entries.items ++ entries_of (Up self.now.number) at (given_whats (id == self.now.table.limit) what) }
-        ensures entry_room { out.old.entries.spare ≤ out.new.entries.spare + 2 }
-        ensures letters { out.new.letters ≡ out.old.letters }
-    {
-        self.put(at, what, out);
-        if self.is_limit(id) {
-            self.put(at, What::Retired, out);
-        }
-    }
-
-    /// Posts a letter to the desk, for which there is room.
-    pub fn tell_desk(&self, letter: Letter, out: &mut Outbox)
-        requires { 1 ≤ out.old.letters.spare }
-        ensures letters { out.new.letters.items ≡ out.old.letters.items ++ to Desk letter }
-        ensures letter_room { out.new.letters.spare + 1 ≡ out.old.letters.spare }
-        ensures entries { out.new.entries ≡ out.old.entries }
-    {
-        out.letters.put(Posted {
-            to: PartName::Desk,
-            letter,
-        });
-    }
-
-    /// Posts a letter to a client, for which there is room.
-    pub fn tell_client(&self, client: u32, letter: Letter, out: &mut Outbox)
-        requires { 1 ≤ out.old.letters.spare }
-        ensures letters { out.new.letters.items ≡ out.old.letters.items ++ to (Client client) letter }
-        ensures letter_room { out.new.letters.spare + 1 ≡ out.old.letters.spare }
-        ensures entries { out.new.entries ≡ out.old.entries }
-    {
-        out.letters.put(Posted {
-            to: PartName::Client(client),
-            letter,
-        });
-    }
-
-    /// Tells the desk that it is retired, where this identifier is the limit. There is room for that.
-    pub fn tell_retired(&self, id: u32, out: &mut Outbox)
-        requires { 1 ≤ out.old.letters.spare }
-        ensures letters { out.new.letters.items ≡ out.old.letters.items ++ retired_letters self.now.number (id == self.now.table.limit) }
-        ensures letter_room { out.old.letters.spare ≤ out.new.letters.spare + 1 }
-        ensures entries { out.new.entries ≡ out.old.entries }
-    {
-        if self.is_limit(id) {
-            self.tell_desk(Letter::IsRetired { conn: self.number }, out);
-        }
     }
 }

@@ -8,7 +8,10 @@
 
 mod closing;
 mod conn;
+mod counted;
 mod settings;
+mod telling;
+mod timed;
 
 pub use conn::ConnCore;
 pub use settings::{OwnBindBytes, UpSettings};

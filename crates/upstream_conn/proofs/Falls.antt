@@ -84,6 +84,7 @@ fall-knows s u v at own end request table given fresh k =
         plain = subst (λ (t : Table). ArePlain t.rows) (sym the_table) tt;
         own = subst (λ (x : Option OwnWait). OwnIsGiven v.core x) (sym end.1) (subst (λ (w : Conn). OwnIsGiven w own) (sym core) (still own given));
         fresh = λ h. end.1 ∙ fresh (sym (ap (λ (w : Conn). w.linked) core) ∙ h);
+        unlinked = λ h. ap (λ (w : Conn). w.up) core ∙ k.steady.unlinked (sym (ap (λ (w : Conn). w.linked) core) ∙ h);
         idle = λ h. ap (λ (t : Table). t.rows) the_table;
       };
     }

@@ -73,23 +73,21 @@ idle-did s u o q at op mark none entries letters =
       behind = refl;
     })
 
-own_by : Bool → Bool → OwnTold
+abbrev pub own_by : Bool → Bool → OwnTold
 own_by t h = elim t [ false ↦ told.Unfit | true ↦ elim h [ true ↦ told.Success | false ↦ told.Refused ] ]
 
 succeeded : (t h : Bool) → own_by t h ≡ told.Success → (t ≡ true) × (h ≡ true)
-unfolding own_by
 succeeded false h e = absurd (let bad : told.Unfit ≡ told.Success = e in cc)
 succeeded true false e = absurd (let bad : told.Refused ≡ told.Success = e in cc)
 succeeded true true e = (refl, refl)
 
-own-good : (ign f y w : Bool) → f ≡ true → y ≡ false → (if ign then false else if f then y else w) ≡ false
+pub own-good : (ign f y w : Bool) → f ≡ true → y ≡ false → (if ign then false else if f then y else w) ≡ false
 own-good true f y w h k = refl
 own-good false true y w h k = k
 own-good false false y w h k = absurd (let bad : false ≡ true = h in cc)
 
 -- the own Bind's success
 pub success-did : (s : Settings) (u : UpstreamPart) (o q : Outbox) (at id : ℕ) (rest : List ℕ) (mark : Option Taken) → under_own id u.own ≡ true → own_told rest ≡ told.Success → q.entries.items ≡ o.entries.items ++ entries_of (Connection u.core.number) at (what.Got id rest ∷ what.Up ∷ []) → q.letters.items ≡ o.letters.items ++ record { to = Desk; letter = IsUp u.core.number } ∷ [] → Did s (state u) at mark (message (state u) at (record { id = id; rest = rest })) o q (state (record u { core = record u.core { moment = at; up = true }; own = None }))
-unfolding own_by
 success-did s u o q at id rest mark own h entries letters =
     let m : Message = record { id = id; rest = rest } in
     let p : ConnectionState = state u in
@@ -130,6 +128,7 @@ touched-knows s u w at id new table k =
         plain = is_plain;
         own = own_same u.own k.steady.own;
         fresh = k.steady.fresh;
+        unlinked = k.steady.unlinked;
         idle = λ h. ap (changed (answered_row at) id) (k.steady.idle h);
       };
     })

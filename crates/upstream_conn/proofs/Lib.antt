@@ -5,3 +5,11 @@ pub mod Messages
 pub mod Meets
 pub mod Gots
 pub mod Falls
+pub mod Lasts
+pub mod Owns
+pub mod OwnBinds
+pub mod Joined
+pub mod Expiries
+pub mod Turns
+pub mod Severs
+pub mod Within

@@ -33,6 +33,12 @@ stray-by false false y g r false z w h v k e = v ∙ ap not e
 stray-by false true y g r x z w h v k e = absurd (let bad : true ≡ false = h in cc)
 stray-by false false y g r true z w h v k e = absurd (let bad : true ≡ false = k in cc)
 
+stray-bad-by : (ign f y g r x z w : Bool) → f ≡ false → w ≡ (if x then z else not (g && r)) → x ≡ false → (ign || (g && r)) ≡ false → (if ign then false else if f then y else w) ≡ true
+stray-bad-by true f y g r x z w h v k e = absurd (let bad : true ≡ false = e in cc)
+stray-bad-by false false y g r false z w h v k e = v ∙ ap not e
+stray-bad-by false true y g r x z w h v k e = absurd (let bad : true ≡ false = h in cc)
+stray-bad-by false false y g r true z w h v k e = absurd (let bad : true ≡ false = k in cc)
+
 good-by : (ign f y w : Bool) → f ≡ false → w ≡ false → (if ign then false else if f then y else w) ≡ false
 good-by true f y w h v = refl
 good-by false false y w h v = v
@@ -68,6 +74,10 @@ module _ (c : Conn) (own : Option OwnWait) (waiting : List ℕ) (at : ℕ) (m : 
   -- a message that is under nothing that waits, and has no effect
   pub dropped-good : row_of m.id c.table.rows ≡ None → is_dropped c.table.ids.next m.id m.rest ≡ true → bad.is_bad f m ≡ false
   dropped-good none drop = stray-by (bad.is_ignored m) (bad.is_for_own f m) (bad.is_bad_own m) (nat_lt 0 m.id && nat_lt m.id c.table.ids.next) (is_response m.rest) (list_any (bad.is_under_who m.id) f.requests) (bad.is_bad_who m) (bad.is_bad_other f m) for-own (ap (bad.is_bad_for f m) (find-request m.id c.table.rows plain ∙ ap asked none)) (none-under-who m.id c.table.rows plain) drop
+
+  -- and one that has one
+  pub stray-bad : row_of m.id c.table.rows ≡ None → is_dropped c.table.ids.next m.id m.rest ≡ false → bad.is_bad f m ≡ true
+  stray-bad none kept = stray-bad-by (bad.is_ignored m) (bad.is_for_own f m) (bad.is_bad_own m) (nat_lt 0 m.id && nat_lt m.id c.table.ids.next) (is_response m.rest) (list_any (bad.is_under_who m.id) f.requests) (bad.is_bad_who m) (bad.is_bad_other f m) for-own (ap (bad.is_bad_for f m) (find-request m.id c.table.rows plain ∙ ap asked none)) (none-under-who m.id c.table.rows plain) kept
 
   pub none-answered : row_of m.id c.table.rows ≡ None → answered p at m ≡ nothing
   none-answered none =

@@ -28,12 +28,12 @@ use Rattle.conn_core.specs.Kept.{open_rows, ArePlain}
 use Rattle.conn_core.specs.Closing.{given_whats, retired_letters}
 use Rattle.conn_core.specs.Did.{Did}
 use Rattle.conn_core.proofs.Moments.{rises-length}
-use Rattle.conn_core.proofs.Rows.{put-length, fresh}
+use Rattle.conn_core.proofs.Rows.{put-length, fresh, first-le}
 use Rattle.conn_core.proofs.Plain.{rows-put}
 use Rattle.upstream_conn.specs.Part.{Knows, OwnIsGiven, state, up_wait}
 use Rattle.upstream_conn.specs.declared.part.OwnWait.{OwnWait}
 use Rattle.upstream_conn.specs.declared.part.UpstreamPart.{UpstreamPart}
-use Rattle.upstream_conn.proofs.Sound.{none-has, once-put, plain-put, open-plain, first-le, passes-given}
+use Rattle.upstream_conn.proofs.Sound.{none-has, once-put, plain-put, open-plain, passes-given}
 
 -- by the settings, and by the limit
 pub giving-is : (s : Settings) (id limit : ℕ) (w : What) → s.id_limit ≡ limit → giving s id w ≡ given_whats (id == limit) w
@@ -125,6 +125,7 @@ sent-knows s u w at op kind ask going linked up plain none new table k =
         plain = is_plain;
         own = own_same u.own k.steady.own;
         fresh = λ h. absurd (let bad : true ≡ false = sym linked ∙ h in cc);
+        unlinked = λ h. absurd (let bad : true ≡ false = sym linked ∙ h in cc);
         idle = λ h. absurd (let bad : true ≡ false = sym up ∙ h in cc);
       };
     })

@@ -4,9 +4,7 @@ use Rattle.std.proofs.lemmas.Bool.Decides.{nat_tests}
 use Rattle.std.specs.Prelude.{nat_lt, is_none, cond}
 use Rattle.lload_names.specs.declared.names.OpName.{OpName}
 use Rattle.lload_names.specs.Same.{same_op}
-use Rattle.lload_spec.specs.Identifiers.{Ids, id_for}
 use Rattle.id_table.specs.declared.row.Row.{Row}
-use Rattle.id_table.specs.Given.{AreIds}
 use Rattle.id_table.specs.Rows.{id_of, put, without, changed, answered}
 use Rattle.conn_core.specs.Kept.{has_op, EachOnce, open_rows, IsPlain, ArePlain}
 use Rattle.conn_core.proofs.Plain.{same-sym}
@@ -25,7 +23,7 @@ has-step : (op : OpName) (x : Row) (rows : List Row) (b : Bool) → same_op op x
 has-step op x rows true t = ap (λ (b : Bool). let c : Bool = elim b [ true ↦ true | false ↦ has_op op rows ] in c) t
 has-step op x rows false t = ap (λ (b : Bool). let c : Bool = elim b [ true ↦ true | false ↦ has_op op rows ] in c) t
 
-not-head : (op : OpName) (x : Row) (rows : List Row) → has_op op (x ∷ rows) ≡ false → (same_op op x.op ≡ false) × (has_op op rows ≡ false)
+pub not-head : (op : OpName) (x : Row) (rows : List Row) → has_op op (x ∷ rows) ≡ false → (same_op op x.op ≡ false) × (has_op op rows ≡ false)
 not-head op x rows h = by (same_op op x.op) refl
   where
     by : (b : Bool) → same_op op x.op ≡ b → (same_op op x.op ≡ false) × (has_op op rows ≡ false)
@@ -113,14 +111,6 @@ plain-answered now id (x ∷ xs) p = by (x.id == id) (p.0, plain-answered now id
 pub open-plain : (rows : List Row) → ArePlain rows → open_rows rows ≡ rows
 open-plain [] p = refl
 open-plain (r ∷ rs) p = ap (λ (o : Bool). cond o (r ∷ open_rows rs) (open_rows rs)) (ap is_none p.0.kept) ∙ ap (λ l. r ∷ l) (open-plain rs p.1)
-
--- the first free identifier isn't beyond the next
-pub first-le : (i : Ids) → AreIds i → id_for i ≤ i.next
-first-le i a = by i.next i.free a
-  where
-    by : (next : ℕ) (free : List ℕ) → AreIds (record { next = next; free = free }) → id_for (record { next = next; free = free }) ≤ next
-    by next [] a = omega arith
-    by next (id ∷ ids) a = omega (arith, a.given.0.1)
 
 -- whether the limit was given, behind an identifier more
 pub passes-given : (limit next id : ℕ) → id ≤ next → nat_lt limit (max next (suc id)) ≡ (if nat_lt limit next then true else id == limit)

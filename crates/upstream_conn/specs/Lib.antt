@@ -1,3 +1,6 @@
 pub mod Waits
 pub mod Told
 pub mod Part
+pub mod Ticks
+pub mod Turned
+pub mod Most

@@ -18,6 +18,8 @@ use Rattle.id_table.specs.Rows.{id_of}
 use Rattle.part_spec.specs.ConnectionState.{ConnectionState, OwnWait as UpWait}
 use Rattle.part_spec.specs.ConnectionTurn.{is_drained}
 use Rattle.conn_core.specs.Kept.{ArePlain}
+use Rattle.conn_core.specs.declared.settings.OwnBindBytes.{OwnBindBytes}
+use Rattle.conn_core.specs.declared.settings.UpSettings.{UpSettings}
 use Rattle.conn_core.specs.Conn.{Conn, state_of, Agrees, IsSound}
 use Rattle.upstream_conn.specs.declared.part.OwnWait.{OwnWait}
 use Rattle.upstream_conn.specs.declared.part.UpstreamPart.{UpstreamPart}
@@ -41,6 +43,17 @@ pub record Fits (s : Settings) (u : UpstreamPart) : Type 0 where
   pub placed : is_of_kind s Regular u.core.number ≡ true
   pub request : u.core.linked ≡ false → own_request s ≡ u.own_bind
 
+-- the request of an own Bind, where there is one
+abbrev pub request_of : Option OwnBindBytes → Option (List ℕ)
+request_of own = elim own [ None ↦ None | Some b ↦ Some b.rest ]
+
+-- the settings say what a part of this number is to be made of
+pub record IsMade (s : Settings) (number : ℕ) (u : UpSettings) : Type 0 where
+  pub limit : s.id_limit ≡ u.id_limit
+  pub timeout : s.timeout ≡ u.timeout
+  pub placed : is_of_kind s Regular number ≡ true
+  pub request : own_request s ≡ request_of u.own_bind
+
 -- the own Bind's identifier was given, and nothing is live and the connection isn't up while it waits
 abbrev pub OwnIsGiven : Conn → Option OwnWait → Type 0
 OwnIsGiven c None = ⊤
@@ -53,6 +66,7 @@ pub record IsSteady (u : UpstreamPart) : Type 0 where
   pub plain : ArePlain u.core.table.rows
   pub own : OwnIsGiven u.core u.own
   pub fresh : u.core.linked ≡ false → u.own ≡ None
+  pub unlinked : u.core.linked ≡ false → u.core.up ≡ false
   pub idle : u.core.up ≡ false → u.core.table.rows ≡ []
 
 -- it is of these settings, and steady

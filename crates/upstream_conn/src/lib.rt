@@ -1,13 +1,21 @@
-//! The rules of a regular upstream connection's part, as far as they stand: a Forward, a Drop of nothing live, pauses, the
-//! beginning of a link without an own Bind, an answer that goes on, a message without effect, and one that ends the
-//! connection.
+//! A regular upstream connection's part: it takes an input, and gives entries of its connection's list and letters to other
+//! parts, a rule for each input.
 //!
-//! What each appends is what the definition of its turn makes of the state that the part stands for, and the part then
-//! stands for the state behind it; for want of memory nothing changes. There is no step over all inputs yet, so no layer
-//! stands above.
+//! The layers above may rely on this: for all settings, and for each state that the part stands for, a step appends what
+//! the turn of that state makes, and the part then stands for the state behind it; the end of the link gives what its turn
+//! makes and takes no memory; an input without a rule changes nothing; for want of memory nothing changes. A step costs the
+//! logarithm of the live operations, but for what it gives.
 #![tactic(auto)]
 
+mod abandons;
+mod answers;
+mod clock;
+mod hears;
+mod letters;
+mod links;
 mod part;
+mod step;
+mod surface;
 mod told;
 mod waiting;
 

@@ -52,10 +52,10 @@ impl UpstreamPart {
     ghost use Rattle.std.specs.Option.{ForSome, IsSome};
     ghost use Rattle.std.specs.Prelude.{◌||◌, ◌+◌};
     ghost use Rattle.conn_core.specs.Did.{Did};
-    ghost use Rattle.upstream_conn.specs.Part.{Knows, state, drained_act, closed, under_own};
+    ghost use Rattle.upstream_conn.specs.Part.{Knows, state, drained_act, closed, under_own, IsTakenLetter};
 
     /// A connection that is retired and has nothing left to do ends.
-    fn drain(&mut self, at: u64, out: &mut Outbox)
+    pub(crate) fn drain(&mut self, at: u64, out: &mut Outbox)
         requires entry { 1 ≤ out.old.entries.spare }
         requires letters { 2 ≤ out.old.letters.spare }
         ensures did { (s : Settings) → Knows s self.old → Did s (state self.old) at None (drained_act (state self.old)) out.old out.new (state self.new) }
@@ -68,7 +68,7 @@ impl UpstreamPart {
     }
 
     /// A Forward, where the connection takes further operations: it is sent.
-    fn send(
+    pub(crate) fn send(
         &mut self,
         at: u64,
         op: OpName,
@@ -80,11 +80,8 @@ impl UpstreamPart {
         requires goes_on { passes_limit self.old.core.table ≡ false }
         requires there { self.old.core.down ≡ false }
         requires linked { self.old.core.linked ≡ true }
-        requires up { self.old.core.up ≡ true }
-        requires plain { same_kind Bind kind ≡ false }
-        requires fresh { id_of op self.old.core.table.rows ≡ None }
         ensures did { OnOk result ((s : Settings) (sender : PartName) (holder : OpName) → Knows s self.old → Did s (state self.old) at (Some (record { sender = sender; letter = Forward op kind rest ask_who holder })) (forwards s (state self.old) op rest) out.old out.new (state self.new)) }
-        ensures knows { OnOk result ((s : Settings) → Knows s self.old → Knows s self.new) }
+        ensures knows { OnOk result ((s : Settings) (holder : OpName) → Knows s self.old → IsTakenLetter self.old (Forward op kind rest ask_who holder) → Knows s self.new) }
         ensures room { OnOk result ((1 ≤ out.new.entries.spare) × (2 ≤ out.new.letters.spare)) }
         ensures out { OnErr result ((out.new.entries.items ≡ out.old.entries.items) × (out.new.letters.items ≡ out.old.letters.items)) }
         ensures err { OnErr result (self.new ≡ self.old) }
@@ -98,7 +95,13 @@ impl UpstreamPart {
     }
 
     /// A Forward, where it takes no further ones: it is missed.
-    fn miss(&mut self, at: u64, op: OpName, rest: Body, out: &mut Outbox) -> Result<(), NoMemory>
+    pub(crate) fn miss(
+        &mut self,
+        at: u64,
+        op: OpName,
+        rest: Body,
+        out: &mut Outbox,
+    ) -> Result<(), NoMemory>
         requires stopped { (passes_limit self.old.core.table || self.old.core.down) ≡ true }
         ensures did { OnOk result ((s : Settings) (mark : Option Taken) → Knows s self.old → Did s (state self.old) at mark (forwards s (state self.old) op rest) out.old out.new (state self.new)) }
         ensures knows { OnOk result ((s : Settings) → Knows s self.old → Knows s self.new) }
@@ -115,7 +118,7 @@ impl UpstreamPart {
     }
 
     /// Posts the letters of an operation that fails, for which there is room.
-    fn fail(&self, op: OpName, which: Refusal, out: &mut Outbox)
+    pub(crate) fn fail(&self, op: OpName, which: Refusal, out: &mut Outbox)
         requires { 2 ≤ out.old.letters.spare }
         ensures letters { out.new.letters.items ≡ out.old.letters.items ++ (failed op which ++ to Desk (Ended op self.now.core.number None)) }
         ensures letter_room { out.new.letters.spare + 2 ≡ out.old.letters.spare }
@@ -127,7 +130,7 @@ impl UpstreamPart {
     }
 
     /// Posts the letter of an operation's end, for which there is room.
-    fn end(&self, op: OpName, latency: Option<u32>, out: &mut Outbox)
+    pub(crate) fn end(&self, op: OpName, latency: Option<u32>, out: &mut Outbox)
         requires { 1 ≤ out.old.letters.spare }
         ensures letters { out.new.letters.items ≡ out.old.letters.items ++ to Desk (Ended op self.now.core.number latency) }
         ensures letter_room { out.new.letters.spare + 1 ≡ out.old.letters.spare }
@@ -139,7 +142,7 @@ impl UpstreamPart {
     }
 
     /// A Drop of an operation that isn't live: it is idle.
-    fn idle(&mut self, at: u64, op: OpName, out: &mut Outbox) -> Result<(), NoMemory>
+    pub(crate) fn idle(&mut self, at: u64, op: OpName, out: &mut Outbox) -> Result<(), NoMemory>
         requires { id_of op self.old.core.table.rows ≡ None }
         ensures did { OnOk result ((s : Settings) (mark : Option Taken) → Knows s self.old → Did s (state self.old) at mark (drops s (state self.old) op) out.old out.new (state self.new)) }
         ensures knows { OnOk result ((s : Settings) → Knows s self.old → Knows s self.new) }
@@ -154,7 +157,7 @@ impl UpstreamPart {
     }
 
     /// A Pause.
-    fn pause(&mut self, at: u64, client: u32, out: &mut Outbox) -> Result<(), NoMemory>
+    pub(crate) fn pause(&mut self, at: u64, client: u32, out: &mut Outbox) -> Result<(), NoMemory>
         ensures did { OnOk result ((s : Settings) (mark : Option Taken) → Knows s self.old → Did s (state self.old) at mark (act (what.Paused client ∷ []) []) out.old out.new (state self.new)) }
         ensures knows { OnOk result ((s : Settings) → Knows s self.old → Knows s self.new) }
         ensures room { OnOk result ((1 ≤ out.new.entries.spare) × (2 ≤ out.new.letters.spare)) }
@@ -169,7 +172,7 @@ impl UpstreamPart {
     }
 
     /// A Resume.
-    fn resume(&mut self, at: u64, client: u32, out: &mut Outbox) -> Result<(), NoMemory>
+    pub(crate) fn resume(&mut self, at: u64, client: u32, out: &mut Outbox) -> Result<(), NoMemory>
         ensures did { OnOk result ((s : Settings) (mark : Option Taken) → Knows s self.old → Did s (state self.old) at mark (act (what.Resumed client ∷ []) []) out.old out.new (state self.new)) }
         ensures knows { OnOk result ((s : Settings) → Knows s self.old → Knows s self.new) }
         ensures room { OnOk result ((1 ≤ out.new.entries.spare) × (2 ≤ out.new.letters.spare)) }
@@ -184,7 +187,7 @@ impl UpstreamPart {
     }
 
     /// It is linked, and up where no own Bind is configured.
-    fn begin(&mut self, at: u64, out: &mut Outbox) -> Result<(), NoMemory>
+    pub(crate) fn begin(&mut self, at: u64, out: &mut Outbox) -> Result<(), NoMemory>
         requires unlinked { self.old.core.linked ≡ false }
         requires plain { self.old.own_bind ≡ None }
         ensures did { OnOk result ((s : Settings) (mark : Option Taken) → Knows s self.old → Did s (state self.old) at mark (link_up s (state self.old)) out.old out.new (state self.new)) }
@@ -204,7 +207,7 @@ impl UpstreamPart {
     }
 
     /// A message for the own Bind, which succeeded: the connection is up.
-    fn own_success(
+    pub(crate) fn own_success(
         &mut self,
         at: u64,
         id: u32,
@@ -231,7 +234,7 @@ impl UpstreamPart {
     }
 
     /// A message that is an answer to a live operation, and not the last.
-    fn answer(
+    pub(crate) fn answer(
         &mut self,
         at: u64,
         id: u32,
@@ -258,7 +261,7 @@ impl UpstreamPart {
     }
 
     /// Posts a reply to an operation's client, for which there is room.
-    fn reply(&self, op: OpName, rest: Body, last: bool, out: &mut Outbox)
+    pub(crate) fn reply(&self, op: OpName, rest: Body, last: bool, out: &mut Outbox)
         requires { 1 ≤ out.old.letters.spare }
         ensures letters { out.new.letters.items ≡ out.old.letters.items ++ reply op rest last None }
         ensures letter_room { out.new.letters.spare + 1 ≡ out.old.letters.spare }
@@ -277,7 +280,7 @@ impl UpstreamPart {
     }
 
     /// A message that nothing waits for, or that takes the connection down, for a reason.
-    fn fall(
+    pub(crate) fn fall(
         &mut self,
         at: u64,
         id: u32,
@@ -304,7 +307,13 @@ impl UpstreamPart {
     }
 
     /// A message that has no effect.
-    fn ignore(&mut self, at: u64, id: u32, rest: Body, out: &mut Outbox) -> Result<(), NoMemory>
+    pub(crate) fn ignore(
+        &mut self,
+        at: u64,
+        id: u32,
+        rest: Body,
+        out: &mut Outbox,
+    ) -> Result<(), NoMemory>
         requires stray { row_of id self.old.core.table.rows ≡ None }
         requires other { under_own id self.old.own ≡ false }
         requires dropped { is_dropped self.old.core.table.ids.next id rest ≡ true }
@@ -321,7 +330,13 @@ impl UpstreamPart {
     }
 
     /// A message that can't answer the operation that it is under: the connection ends.
-    fn misfit(&mut self, at: u64, id: u32, rest: Body, out: &mut Outbox) -> Result<(), NoMemory>
+    pub(crate) fn misfit(
+        &mut self,
+        at: u64,
+        id: u32,
+        rest: Body,
+        out: &mut Outbox,
+    ) -> Result<(), NoMemory>
         requires there { self.old.core.down ≡ false }
         requires row { ForSome (row_of id self.old.core.table.rows) (λ r. told_of r.kind rest ≡ Unfit) }
         requires live { IsSome (row_of id self.old.core.table.rows) }

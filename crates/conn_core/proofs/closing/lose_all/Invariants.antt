@@ -1,5 +1,4 @@
 use Rattle.std.proofs.Common.{◌≡◌, ◌≤◌, ◌+◌, ◌*◌, ◌++◌, length}
-use Rattle.id_table.specs.Table.{IsTable}
 use Rattle.conn_core.specs.Closing.{lost_letters}
 use Rattle.conn_core.proofs.closing.lose_all.Given as goal
 

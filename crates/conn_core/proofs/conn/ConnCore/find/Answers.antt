@@ -1,6 +1,5 @@
-use Rattle.std.proofs.Common.{◌≡◌, ◌<◌, ◌^◌, ℕ, List, Option, Some, None, ap, sym, subst, arith}
+use Rattle.std.proofs.Common.{◌<◌, ◌^◌, ℕ, Option, sym, subst}
 use Rattle.std.specs.Prelude.{IfSome}
-use Rattle.id_table.specs.Rows.{id_of}
 use Rattle.conn_core.proofs.Keeps.{small-id}
 use Rattle.conn_core.proofs.conn.ConnCore.find.Goals as goal
 

@@ -22,4 +22,4 @@ returns-clause-did c = λ s sender holder k.
     ∙ ap (λ (w : Conn). c.args.out.now.letters.items ++ retired_letters w.number (c.in_ok-id.id == w.table.limit)) c.in_ok-id.ensures.sent)
 
 pub returns-clause-knows : goal.returns-clause-knows
-returns-clause-knows c = λ s. sent-knows s c.args.self.now c.send.new.self c.args.at c.args.op c.args.kind c.args.ask_who c.requires.goes_on c.requires.linked c.requires.up c.requires.plain c.requires.fresh c.in_ok-id.ensures.sent c.in_ok-id.ensures.table
+returns-clause-knows c = λ s holder k t. sent-knows s c.args.self.now c.send.new.self c.args.at c.args.op c.args.kind c.args.ask_who c.requires.goes_on c.requires.linked t.0 t.1 t.2 c.in_ok-id.ensures.sent c.in_ok-id.ensures.table k

@@ -1,0 +1,12 @@
+use Rattle.std.proofs.Common.{◌+◌, ◌*◌, ap, ◌∙◌}
+use Rattle.bind_conn.proofs.Within.{step-within, sever-within, most-is}
+use Rattle.bind_conn.proofs.part.BindPart.most.Goals as goal
+
+pub returns-clause-most : goal.returns-clause-most
+returns-clause-most c = λ s p h. ap (λ n. 2 * n + 4) c.len.ensures.len ∙ most-is s p c.args.self.now h
+
+pub returns-clause-step : goal.returns-clause-step
+returns-clause-step c = λ s p input h. step-within s p c.args.self.now input _ (ap (λ n. 2 * n + 4) c.len.ensures.len) h
+
+pub returns-clause-sever : goal.returns-clause-sever
+returns-clause-sever c = λ s p now why h. sever-within s p c.args.self.now now why _ (ap (λ n. 2 * n + 4) c.len.ensures.len) h

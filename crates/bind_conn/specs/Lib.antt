@@ -1,0 +1,5 @@
+pub mod Part
+pub mod Told
+pub mod Met
+pub mod Turned
+pub mod Most
