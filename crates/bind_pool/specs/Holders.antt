@@ -1,8 +1,10 @@
 use Rattle.std.specs.Prelude.{◌≡◌, ℕ, Bool, false, ◌&&◌, ◌==◌, List, Option, Some, None}
 use Rattle.std.specs.BTreeMap.{insert_entry, is_at}
 use Rattle.std.specs.List.Sorted.{IsStrictlySortedBy}
+use Rattle.std.specs.BTreeSet.{BTreeSet, contains}
 use Rattle.std.specs.Map.{lookup, keys_of, remove_entry}
-use Rattle.std.specs.Ordering.{nat_cmp}
+use Rattle.std.specs.Ordering.{nat_cmp, ordering_then}
+use Rattle.std.specs.declared.cmp.Ordering.{Ordering}
 use Rattle.lload_names.specs.declared.names.OpName.{OpName}
 
 -- the operation that holds the connection
@@ -29,3 +31,11 @@ OthersStay conn before after = (c : ℕ) → is_at (nat_cmp conn) c ≡ false �
 -- the connections rise, so that each has one pair
 abbrev pub Rises : List (ℕ × OpName) → Type 0
 Rises pairs = IsStrictlySortedBy nat_cmp (keys_of pairs)
+
+-- operations with connections are ordered by client, number and connection
+abbrev pub key_cmp : OpName × ℕ → OpName × ℕ → Ordering
+key_cmp x y = ordering_then (ordering_then (nat_cmp x.0.client y.0.client) (nat_cmp x.0.k y.0.k)) (nat_cmp x.1 y.1)
+
+-- a set has an operation with a connection exactly where the operation holds it
+abbrev pub Indexes : BTreeSet (OpName × ℕ) → List (ℕ × OpName) → Type 0
+Indexes keys pairs = (op : OpName) (conn : ℕ) → contains key_cmp keys (op, conn) ≡ holds op (holder_of conn pairs)

@@ -1,15 +1,18 @@
 ghost use Rattle.std.specs.Prelude.{◌≡◌, ℕ, [], Option, Some, None, Ok, true, false, OnOk, OnErr, IfOk, IsSome, is_none};
+ghost use Rattle.std.specs.Option.{ForSome};
+ghost use Rattle.std.specs.Prelude.{◌≤◌};
 ghost use Rattle.bind_pool.specs.Holders.{holder_of, taken, without, holds, OthersStay, Rises};
 
 use lload_names::{NoMemory, OpName};
 use std::alloc::Global;
-use std::collections::BTreeMap;
+use std::collections::{BTreeMap, BTreeSet};
 use std::marker::Model;
 
-/// The pairs of a bind connection and the operation that holds it, by rising connection.
+/// The pairs of a bind connection and the operation that holds it, by rising connection, with an index by operation.
 #[derive(Drop)]
 pub struct BindPool {
     holders: BTreeMap<u32, OpName>,
+    conns: BTreeSet<(OpName, u32)>,
 }
 
 impl Model for BindPool {
@@ -18,11 +21,11 @@ impl Model for BindPool {
 
     ghost Value = { List (ℕ × OpName) };
 
-    ghost use Rattle.bind_pool.specs.Holders.{Rises};
+    ghost use Rattle.bind_pool.specs.Holders.{Rises, Indexes};
 
     ghost view = { λ p. p.holders.entries };
 
-    ghost invariant = { λ p. Rises p.holders.entries };
+    ghost invariant = { λ p. Rises p.holders.entries × Indexes p.conns p.holders.entries };
 }
 
 impl BindPool {
@@ -32,6 +35,7 @@ impl BindPool {
     {
         BindPool {
             holders: BTreeMap::new(alloc),
+            conns: BTreeSet::new(alloc),
         }
     }
 
@@ -50,7 +54,11 @@ impl BindPool {
         if self.holders.contains_key(&conn) {
             return Ok(false);
         }
-        self.holders.insert(conn, op)?;
+        self.conns.insert((op, conn))?;
+        if self.holders.insert(conn, op).is_err() {
+            self.conns.remove(&(op, conn));
+            return Err(NoMemory);
+        }
         Ok(true)
     }
 
@@ -68,6 +76,7 @@ impl BindPool {
             return false;
         }
         self.holders.remove(&conn);
+        self.conns.remove(&(op, conn));
         true
     }
 
@@ -77,5 +86,16 @@ impl BindPool {
         ensures rises { Rises self.now }
     {
         self.holders.get(&conn).copied()
+    }
+
+    /// The connection that an operation holds, the lowest where it holds several; `None` exactly where it holds none. It
+    /// takes no memory.
+    pub fn held_by(&self, op: OpName) -> Option<u32>
+        ensures held { ForSome result (λ conn. holds op (holder_of conn self.now) ≡ true) }
+        ensures lowest { ForSome result (λ conn. (c : ℕ) → holds op (holder_of c self.now) ≡ true → conn ≤ c) }
+        ensures none { result ≡ None → (c : ℕ) → holds op (holder_of c self.now) ≡ false }
+    {
+        let (found, conn) = self.conns.range((op, 0)..).next()?;
+        if *found == op { Some(*conn) } else { None }
     }
 }

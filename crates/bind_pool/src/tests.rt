@@ -10,9 +10,12 @@ fn a_connection_has_one_holder_until_it_gives_it_back(rt: HostRuntime) -> Result
     assert_eq!(rt; pool.take(3, first)?, true);
     assert_eq!(rt; pool.take(3, second)?, false);
     assert_eq!(rt; pool.take(1, second)?, true);
+    assert_eq!(rt; pool.held_by(first), Some(3));
+    assert_eq!(rt; pool.held_by(second), Some(1));
     assert_eq!(rt; pool.give(3, second), false);
     assert_eq!(rt; pool.give(3, first), true);
     assert_eq!(rt; pool.holder(3), None);
+    assert_eq!(rt; pool.held_by(first), None);
     assert_eq!(rt; pool.holder(1), Some(second));
     Ok(())
 }

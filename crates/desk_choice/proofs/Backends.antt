@@ -37,8 +37,8 @@ any-none test (x ∷ xs) none = grind (arith, none x (in-head x xs), any-none te
 
 -- a connection that is viable has a row
 pub viable-row : (s : Settings) (f : DeskFacts) (n : ℕ) (o : Option Conn) → RowIs s f n o → is_in n f.viable ≡ true → (r : Conn) × (o ≡ Some r) × RowTells s f n r × InPlan f.tiers r
-viable-row s f n None h e = absurd (let bad : false ≡ true = sym h ∙ e in cc)
-viable-row s f n (Some r) h e = (r, refl, h, h.in_plan (sym h.viable_is ∙ e))
+viable-row s f n None h e = absurd (let bad : false ≡ true = sym h.viable_is ∙ e in cc)
+viable-row s f n (Some r) h e = (r, refl, h, h.in_plan)
 
 -- no backend has the number, so none of its connections is viable
 pub no-backend : (s : Settings) (f : DeskFacts) (d : Tables) (kd : ConnKind) (number : ℕ) → Tells s f d → ((j : ℕ) → ForSome (slice_get d.servers.items j) (λ v. v.plan.number ≢ number)) → is_viable s f kd number ≡ false

@@ -60,7 +60,7 @@ lane-row s f kd j b i n r h at placed room false e = grind arith
 lane-row s f kd j b i n r h at placed room true e = at-index (index_of r == i) refl
   where
     here : InPlan f.tiers r
-    here = h.in_plan e
+    here = h.in_plan
 
     both : (index_of r == i) ≡ true → (r.place.backend == b.number && is_kind kd r.place.kind) ≡ true
     both t = sym (here.placed b.number kd) ∙ ap (λ x. is_in x (places_for f.tiers b.number kd)) (let same : index_of r ≡ i = grind (arith, nat_tests, t) in same) ∙ placed
@@ -77,7 +77,7 @@ lane-row s f kd j b i n r h at placed room true e = at-index (index_of r == i) r
 
 lane-here : (s : Settings) (f : DeskFacts) (kd : ConnKind) (j : ℕ) (b : BackendPlan) (i n : ℕ) (o : Option Conn) → RowIs s f n o → slice_get (backends_of f.tiers) j ≡ Some b → is_in i (places_for f.tiers b.number kd) ≡ true → is_within_limit b.max_pending (pending_at s f b.number) ≡ true → ready_at o i ≡ (is_in n (eligible s f kd b) && (place_index s n == i))
 lane-here s f kd j b i n None h at placed room =
-    let none : is_in n (eligible s f kd b) ≡ false = in-eligible s f kd b n ∙ ap (λ t. (is_of_backend s b.number n && has_room s f b kd n) && (is_of_kind s kd n && t)) h ∙ never (is_of_backend s b.number n && has_room s f b kd n) (is_of_kind s kd n) in
+    let none : is_in n (eligible s f kd b) ≡ false = in-eligible s f kd b n ∙ ap (λ t. (is_of_backend s b.number n && has_room s f b kd n) && (is_of_kind s kd n && t)) h.viable_is ∙ never (is_of_backend s b.number n && has_room s f b kd n) (is_of_kind s kd n) in
     sym (ap (λ t. t && (place_index s n == i)) none)
   where
     never : (a b : Bool) → (a && (b && false)) ≡ false

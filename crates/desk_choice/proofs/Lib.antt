@@ -1,5 +1,5 @@
-mod Flat
-mod Eligible
-mod Tiers
+pub mod Flat
+pub mod Eligible
+pub mod Tiers
 mod Backends
-mod One
+pub mod One

@@ -25,7 +25,7 @@ pub known : (s : Settings) (f : DeskFacts) (n : ℕ) (o : Option Conn) (r : Conn
 known s f n o r e h = rw e at h
 
 unknown : (s : Settings) (f : DeskFacts) (n : ℕ) (o : Option Conn) → o ≡ None → RowIs s f n o → is_in n f.viable ≡ false
-unknown s f n o e h = rw e at h
+unknown s f n o e h = (let none : RowIs s f n None = rw e at h in none).viable_is
 
 not-here : (s : Settings) (f : DeskFacts) (kd : ConnKind) (n : ℕ) → (is_of_kind s kd n && is_in n f.viable) ≡ false → Unavailable ≡ pick_of_connection s f kd n
 not-here s f kd n e = sym (ap (λ b. elim b [ false ↦ Unavailable | true ↦ elim (is_eligible s f kd n) [ true ↦ Go n (backend_of s n) | false ↦ Busy ] ]) (in-filter (is_of_kind s kd) n f.viable ∙ e))
@@ -48,7 +48,7 @@ pub not-usable : (s : Settings) (f : DeskFacts) (d : Tables) (kd : ConnKind) (n 
 not-usable s f d kd n r k e u = not-here s f kd n (usable-is s f kd n r (known s f n (row_of d.conns n) r e (k.rows n)) ∙ u)
 
 in-plan : (s : Settings) (f : DeskFacts) (d : Tables) (kd : ConnKind) (n : ℕ) (r : Conn) → Tells s f d → row_of d.conns n ≡ Some r → is_usable kd r ≡ true → InPlan f.tiers r
-in-plan s f d kd n r k e u = (known s f n (row_of d.conns n) r e (k.rows n)).in_plan (and_parts r.viable (is_kind kd r.place.kind) u).0
+in-plan s f d kd n r k e u = (known s f n (row_of d.conns n) r e (k.rows n)).in_plan
 
 pub no-server : (s : Settings) (f : DeskFacts) (d : Tables) (kd : ConnKind) (n : ℕ) (r : Conn) → Tells s f d → row_of d.conns n ≡ Some r → is_usable kd r ≡ true → slice_get d.servers.items r.spot.server ≡ None → true ≡ false
 no-server s f d kd n r k e u g =

@@ -1,5 +1,6 @@
 -- What the tables say of the facts that a choice rests on: pointwise, one fact a table.
-use Rattle.std.specs.Prelude.{◌≡◌, ◌≤◌, ◌<◌, ℕ, ◌-◌, Bool, true, false, ◌==◌, ◌&&◌, List, length, filter, map, take, slice_get, Option, Some, None}
+use Rattle.std.specs.Prelude.{◌≡◌, ◌≤◌, ◌<◌, ℕ, ◌+◌, ◌-◌, Bool, true, false, ◌==◌, ◌&&◌, List, length, filter, map, take, slice_get, Option, Some, None}
+use Rattle.std.specs.List.{list_any}
 use Rattle.std.specs.Option.{ForSome}
 use Rattle.lload_names.specs.declared.names.ConnKind.{ConnKind}
 use Rattle.lload_names.specs.declared.plans.TierPlan.{TierPlan}
@@ -20,24 +21,37 @@ use Rattle.desk_tables.specs.declared.servers.Lane.{Lane}
 use Rattle.desk_tables.specs.declared.servers.Server.{Server}
 use Rattle.desk_choice.specs.declared.tables.Tables.{Tables}
 
--- of a viable connection: its backend stands at the row's spot, its place is one of the backend's for its kind, and it
--- takes so many operations as its backend lets it
+-- of a connection that has a row: its backend stands at the row's spot, among all and in its tier, its place is one of the
+-- backend's for its kind, and it takes so many operations as its backend lets it
 pub record InPlan (ts : List TierPlan) (r : Conn) : Type 0 where
   pub backend : BackendPlan
   pub at : slice_get (backends_of ts) r.spot.server ≡ Some backend
   pub number : backend.number ≡ r.place.backend
   pub most : (j : ℕ) (b : BackendPlan) → slice_get (backends_of ts) j ≡ Some b → b.number ≡ r.place.backend → r.most ≡ most_on b r.place.kind
   pub placed : (b : ℕ) (k : ConnKind) → is_in (index_of r) (places_for ts b k) ≡ (r.place.backend == b && is_kind k r.place.kind)
+  pub tier : TierPlan
+  pub tier_at : slice_get ts r.spot.tier ≡ Some tier
+  pub in_tier : slice_get tier.backends r.spot.place ≡ Some backend
+  pub among : r.spot.server ≡ length (backends_of (take r.spot.tier ts)) + r.spot.place
 
--- of a connection that has a row; one that has none isn't viable
+-- of a connection that has a row
 pub record RowTells (s : Settings) (f : DeskFacts) (n : ℕ) (r : Conn) : Type 0 where
   pub place : place_at s n ≡ Some r.place
   pub viable_is : is_in n f.viable ≡ r.viable
   pub pending_is : pending_on f n ≡ r.pending
-  pub in_plan : r.viable ≡ true → InPlan f.tiers r
+  pub in_plan : InPlan f.tiers r
+
+-- whether a connection belongs to a backend of the plan in force
+abbrev pub is_current : Settings → DeskFacts → ℕ → Bool
+is_current s f n = list_any (λ b. is_of_backend s b.number n) (backends_of f.tiers)
+
+-- of one that has none: it isn't viable, and where its backend is in force, nothing is pending on it
+pub record NoRowTells (s : Settings) (f : DeskFacts) (n : ℕ) : Type 0 where
+  pub viable_is : is_in n f.viable ≡ false
+  pub pending_is : is_current s f n ≡ true → pending_on f n ≡ 0
 
 abbrev pub RowIs : Settings → DeskFacts → ℕ → Option Conn → Type 0
-RowIs s f n None = is_in n f.viable ≡ false
+RowIs s f n None = NoRowTells s f n
 RowIs s f n (Some r) = RowTells s f n r
 
 -- of the places of a backend for a kind
@@ -81,6 +95,7 @@ pub record Tells (s : Settings) (f : DeskFacts) (d : Tables) : Type 0 where
   pub rounds : (i : ℕ) → RoundIs f i (slice_get f.tiers i) (slice_get d.rounds.items i)
   pub servers : (j : ℕ) → ServerIs s f (slice_get d.servers.items j)
   pub rows : (n : ℕ) → RowIs s f n (row_of d.conns n)
+  pub once : (n : ℕ) → length (filter (λ m. m == n) f.viable) ≤ 1
   pub small : (n : ℕ) → is_in n f.viable ≡ true → n ≤ most_conn
   pub ready : (i n : ℕ) → n ≤ most_conn → has d.ready i n ≡ ready_at (row_of d.conns n) i
 

@@ -1,2 +1,3 @@
+mod Holders
 pub mod Orders
 pub mod Picking

@@ -1,5 +1,5 @@
 -- The order of a tier by places is its order by backends.
-use Rattle.std.proofs.Common.{◌≡◌, ℕ, zero, suc, ◌+◌, ◌-◌, ◌<◌, ◌≤◌, Bool, true, false, ◌==◌, List, [], ◌∷◌, ◌++◌, length, map, get_or, slice_get, Option, Some, None, refl, sym, ap, ◌∙◌, arith}
+use Rattle.std.proofs.Common.{◌≡◌, ℕ, zero, suc, ◌+◌, ◌-◌, ◌<◌, ◌≤◌, true, false, ◌==◌, List, [], ◌∷◌, ◌++◌, length, map, get_or, slice_get, Option, Some, None, refl, sym, ap, ◌∙◌, arith}
 use Rattle.std.proofs.lemmas.Bool.Decides.{nat_tests}
 use Rattle.std.proofs.lemmas.List.Sorted.{All-permutation}
 use Rattle.std.specs.List.{All}
@@ -9,7 +9,7 @@ use Rattle.lload_names.specs.declared.plans.TierKind.{TierKind}
 use Rattle.lload_names.specs.declared.plans.TierKind.TheVariants.{RoundRobin, Weighted, BestOf}
 use Rattle.lload_names.specs.Plans.{NumberedFrom}
 use Rattle.lload_spec.proofs.PickLemmas.{tier_order-map, tier_order-permutes}
-use Rattle.lload_spec.specs.Picks.{from_successor, in_turn, tier_order}
+use Rattle.lload_spec.specs.Picks.{from_successor, tier_order}
 use Rattle.tier_select.specs.declared.draws.Member.{Member}
 use Rattle.tier_select.specs.Members.{weight, place, places, members_from}
 use Rattle.tier_select.specs.Calls.{order_of}

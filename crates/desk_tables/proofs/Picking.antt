@@ -1,5 +1,5 @@
 -- The choice of a tier is the pick of its backends.
-use Rattle.std.proofs.Common.{◌≡◌, ℕ, suc, ◌+◌, ◌-◌, ◌<◌, Bool, true, false, nat_lt, List, [], ◌∷◌, ◌++◌, length, map, filter, get_or, slice_get, is_some, if◌then◌else◌, Option, Some, None, refl, sym, ap, ◌∙◌, arith}
+use Rattle.std.proofs.Common.{◌≡◌, ℕ, suc, ◌+◌, ◌-◌, Bool, true, false, nat_lt, List, [], ◌∷◌, ◌++◌, map, filter, get_or, slice_get, is_some, if◌then◌else◌, Option, Some, None, refl, sym, ap, ◌∙◌, arith}
 use Rattle.std.proofs.lemmas.List.Elements.{All-filter, filter_passes}
 use Rattle.std.specs.Prelude.{cond}
 use Rattle.std.specs.List.{All}
@@ -16,7 +16,7 @@ use Rattle.lload_spec.specs.Picks.{tier_order, tier_pick, mean_of_last}
 use Rattle.lload_spec.specs.Settings.{Settings}
 use Rattle.lload_spec.specs.Choice.{DeskFacts, connection_for, candidates, mean_of, or_busy, order, pick}
 use Rattle.tier_select.specs.Flags.{is_set}
-use Rattle.tier_select.specs.Calls.{Call, Standing, standing, last_picked, latencies_at, choice}
+use Rattle.tier_select.specs.Calls.{Standing, last_picked, latencies_at, choice}
 use Rattle.tier_select.proofs.Standings.{choice_standing}
 use Rattle.desk_tables.specs.Choices.{TierTells, AreEligible, IsPick}
 use Rattle.desk_tables.proofs.Orders.{place_of, ordered, IsAt, order-at}

@@ -1,5 +1,5 @@
 -- What the desk keeps of a backend's places.
-use Rattle.std.specs.Prelude.{ℕ, Bool, nat_lt}
+use Rattle.std.specs.Prelude.{Bool, nat_lt}
 use Rattle.lload_names.specs.declared.names.ConnKind.{ConnKind}
 use Rattle.lload_names.specs.declared.names.ConnKind.TheVariants.{Regular, Bind}
 use Rattle.desk_tables.specs.declared.servers.Lane.{Lane}

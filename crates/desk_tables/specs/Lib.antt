@@ -1,4 +1,5 @@
 pub mod Rows
+pub mod Pending
 pub mod Lanes
 pub mod Turns
 pub mod Choices

@@ -1,5 +1,5 @@
 use super::*;
-use lload_names::{BackendPlan, ConnKind, Listed, NoMemory, Place, TierKind, TierPlan};
+use lload_names::{BackendPlan, ConnKind, Listed, NoMemory, OpName, Place, TierKind, TierPlan};
 use std::alloc::Global;
 use std::test::Fail;
 use tier_select::Flags;
@@ -66,5 +66,19 @@ fn a_tier_of_one_backend_picks_it(rt: HostRuntime) -> Result<(), Fail> {
     round.heard(0, 5);
     assert_eq!(rt; round.first(), 3);
     assert_eq!(rt; round.count(), 1);
+    Ok(())
+}
+
+#[test]
+fn an_operation_is_pending_on_one_connection(rt: HostRuntime) -> Result<(), Fail> {
+    let search = OpName { client: 1, k: 4 };
+    let bind = OpName { client: 2, k: 1 };
+    let mut pending = Pending::new(rt.alloc());
+    assert_eq!(rt; pending.put(search, 7, ConnKind::Regular)?, true);
+    assert_eq!(rt; pending.put(bind, 3, ConnKind::Bind)?, true);
+    assert_eq!(rt; pending.put(search, 3, ConnKind::Bind)?, false);
+    assert_eq!(rt; pending.take(bind), Some(3));
+    assert_eq!(rt; pending.take(bind), None);
+    assert_eq!(rt; pending.take(search), Some(7));
     Ok(())
 }

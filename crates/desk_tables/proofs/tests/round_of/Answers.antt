@@ -1,4 +1,4 @@
-use Rattle.std.proofs.Common.{◌≡◌, List, [], ◌∷◌, ◌++◌, length, refl, sym, ap, ◌∙◌, subst, arith}
+use Rattle.std.proofs.Common.{◌≡◌, [], ◌∷◌, ◌++◌, length, refl, sym, ap, ◌∙◌, subst, arith}
 use Rattle.lload_names.specs.declared.plans.BackendPlan.{BackendPlan}
 use Rattle.lload_names.specs.declared.plans.TierKind.TheVariants.{RoundRobin}
 use Rattle.lload_names.specs.Plans.{IsTier, rooms_of}

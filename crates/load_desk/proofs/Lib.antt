@@ -1,0 +1,9 @@
+mod Lists
+mod Changes
+mod Losses
+mod Releases
+mod Gains
+mod Arrivals
+mod Turns
+mod Picking
+mod Hearing

@@ -1,0 +1,5 @@
+pub mod Places
+pub mod Counts
+pub mod Rows
+pub mod Turning
+pub mod Latencies
