@@ -44,6 +44,14 @@ impl<T> Roomy<T> {
         self.values.as_slice()
     }
 
+    /// The vector of the items, for which the list is given up. It takes no memory.
+    pub fn into_vec(self) -> Vec<T>
+        ensures { result.items ≡ self.items }
+    {
+        let Roomy { values } = self;
+        values
+    }
+
     /// Makes room for so many more items. For want of memory the items stay as they were.
     pub fn reserve(&mut self, more: usize) -> Result<(), NoMemory>
         ensures items { self.new.items ≡ self.old.items }
