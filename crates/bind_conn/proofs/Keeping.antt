@@ -9,16 +9,14 @@ use Rattle.ldap_spec.specs.Bodies.{who_am_i}
 use Rattle.ldap_spec.specs.Kinds.{is_final, is_intermediate}
 use Rattle.ldap_spec.specs.Responses.{result_code}
 use Rattle.lload_names.specs.declared.names.OpKind.TheVariants.{Bind}
-use Rattle.lload_names.specs.declared.names.Entry.{Entry}
 use Rattle.lload_names.specs.declared.names.PartName.TheVariants.{Up as Connection}
 use Rattle.lload_names.specs.declared.names.What.TheVariants as what
 use Rattle.lload_spec.specs.Settings.{Settings}
 use Rattle.lload_spec.specs.Identifiers.{with_own_id}
-use Rattle.lload_spec.specs.OneEach.{begins_with_bind, is_own_bind}
 use Rattle.id_table.specs.declared.row.Row.{Row}
 use Rattle.id_table.specs.declared.row.Kept.{Kept}
-use Rattle.id_table.specs.Rows.{row_of, changed, kept_back, Rises}
-use Rattle.id_table.specs.Table.{Table, IsTable, kept_at, used_up, may_own, passes_limit}
+use Rattle.id_table.specs.Rows.{row_of, changed, kept_back}
+use Rattle.id_table.specs.Table.{IsTable, kept_at, used_up, may_own, passes_limit}
 use Rattle.part_spec.specs.Marked.{Taken}
 use Rattle.part_spec.specs.Inputs.{Act, act, also, entries_of, marked_by}
 use Rattle.part_spec.specs.ConnectionState.{ConnectionState, UpRow, behind_own, is_first_bind, with_got, step_connections}
@@ -28,43 +26,16 @@ use Rattle.conn_core.specs.Conn.{Conn}
 use Rattle.conn_core.specs.Kept.{up_row, open_rows}
 use Rattle.conn_core.specs.Closing.{given_whats, retired_letters}
 use Rattle.conn_core.specs.Did.{Did}
+use Rattle.conn_core.proofs.Giving.{giving-is, retires-is, used-passes}
+use Rattle.conn_core.proofs.Owns.{next-above, not-first, own-step}
 use Rattle.bind_conn.specs.Part.{Knows, IsOneBind, state}
 use Rattle.bind_conn.specs.Told.{told_of}
 use Rattle.bind_conn.specs.declared.part.BindPart.{BindPart}
 use Rattle.bind_conn.specs.declared.told.Told.TheVariants.{Success}
 use Rattle.bind_conn.proofs.Known.{knows-from}
-use Rattle.bind_conn.proofs.Giving.{giving-is, retires-is, passes-given}
 use Rattle.bind_conn.proofs.Meets.{alone, got-stays, success, success-row, success-stays}
 use Rattle.bind_conn.proofs.Gots.{message-good, row-good}
 use Rattle.bind_conn.proofs.Settles.{changed-is, final-fits, coded, picked}
-
--- The state behind an own message that isn't the own Bind.
-pub own-step : (s : Settings) (p : ConnectionState) (at : ℕ) (mark : Option Taken) (rest : List ℕ) (xs : List UpRow) (r b : Bool) → is_first_bind s p (record { part = Connection p.number; at = at; what = what.Own p.ids.next rest }) ≡ false → flat_map (behind_own (record { id = p.ids.next; rest = rest })) p.rows ≡ xs → r ≡ (if b then true else p.retired) → record p { moment = at; retired = r; ids = with_own_id p.ids.next p.ids; rows = xs } ≡ step_connections s p (marked_by mark (entries_of (Connection p.number) at (given_whats b (what.Own p.ids.next rest))))
-own-step s p at mark rest xs r true first rows e =
-    ap (λ t. record p { moment = at; retired = t; ids = with_own_id p.ids.next p.ids; rows = xs }) e
-    ∙ ap (λ l. record p { moment = at; retired = true; ids = with_own_id p.ids.next p.ids; rows = l }) (sym rows)
-    ∙ ap (λ (t : Bool). record p { moment = at; retired = true; ids = with_own_id p.ids.next p.ids; rows = flat_map (behind_own (record { id = p.ids.next; rest = rest })) p.rows; own_bind = if t then Some (record { id = p.ids.next; at = at }) else p.own_bind }) (sym first)
-own-step s p at mark rest xs r false first rows e =
-    ap (λ t. record p { moment = at; retired = t; ids = with_own_id p.ids.next p.ids; rows = xs }) e
-    ∙ ap (λ l. record p { moment = at; ids = with_own_id p.ids.next p.ids; rows = l }) (sym rows)
-    ∙ ap (λ (t : Bool). record p { moment = at; ids = with_own_id p.ids.next p.ids; rows = flat_map (behind_own (record { id = p.ids.next; rest = rest })) p.rows; own_bind = if t then Some (record { id = p.ids.next; at = at }) else p.own_bind }) (sym first)
-
-no-middle : (a b c : Bool) → b ≡ false → (a && b && c) ≡ false
-no-middle a b c h = grind (arith, nat_tests, h)
-
-pub not-first : (s : Settings) (p : ConnectionState) (e : Entry) → (p.ids.next == 1) ≡ false → is_first_bind s p e ≡ false
-not-first s p e h = no-middle (begins_with_bind s p.number) (p.ids.next == 1) (is_own_bind s e) h
-
--- whether the limit was given, behind an own identifier
-pub used-passes : (t : Table) → passes_limit (used_up t) ≡ (if t.ids.next == t.limit then true else passes_limit t)
-used-passes t = passes-given t.limit t.ids.next t.ids.next (omega arith)
-
--- a live row was given its identifier
-next-above : (next : ℕ) (rows : List Row) (r : Row) → rows ≡ r ∷ [] → Rises 1 rows next → 2 ≤ next
-next-above next rows r e h = by (subst (λ (l : List Row). Rises 1 l next) e h)
-  where
-    by : Rises 1 (r ∷ []) next → 2 ≤ next
-    by k = omega (arith, k.0, k.1)
 
 -- where a Bind waits, an identifier is left for its Who Am I
 pub may-own : (s : Settings) (b : BindPart) (id : ℕ) (r : Row) → Knows s b → row_of id b.core.table.rows ≡ Some r → r.kept ≡ None → may_own b.core.table ≡ true
@@ -111,7 +82,7 @@ module _ (s : Settings) (b : BindPart) (at id : ℕ) (rest : List ℕ) (r : Row)
       by false h = absurd (let bad : false ≡ true = h in cc)
 
   first : is_first_bind s (record p { moment = at; rows = x ∷ [] }) (record { part = Connection b.core.number; at = at; what = what.Own next who_am_i }) ≡ false
-  first = not-first s (record p { moment = at; rows = x ∷ [] }) (record { part = Connection b.core.number; at = at; what = what.Own next who_am_i }) (let above = next-above next b.core.table.rows r only.0 k.steady.sound.table.rises in grind (arith, nat_tests, above))
+  first = not-first s (record p { moment = at; rows = x ∷ [] }) (record { part = Connection b.core.number; at = at; what = what.Own next who_am_i }) (next-above id 1 next b.core.table.rows r k.steady.sound.table.rises (omega arith) found)
 
   rows-are : changed (kept_back at kept) id b.core.table.rows ≡ kept_back at kept r ∷ []
   rows-are = changed-is (kept_back at kept) id b.core.table.rows r only.0 only.2
@@ -152,7 +123,7 @@ keep-knows s b w at id own rest r found waits new table k =
     let size : length (open_rows (changed (kept_back at kept) id b.core.table.rows)) ≡ 0 = ap (λ (l : List Row). length (open_rows l)) is in
     let was : length (open_rows b.core.table.rows) ≡ 1 = ap (λ (l : List Row). length (open_rows l)) a.0 ∙ ap (λ (o : Option Kept). length (cond (is_none o) (r ∷ []) [])) waits in
     let within = k.steady.sound.within in
-    let above = next-above b.core.table.ids.next b.core.table.rows r a.0 k.steady.sound.table.rises in
+    let above = next-above id 1 b.core.table.ids.next b.core.table.rows r k.steady.sound.table.rises (omega arith) found in
     let more : max b.core.table.ids.next (suc b.core.table.ids.next) ≡ b.core.table.ids.next + 1 = omega arith in
     knows-from s b w at b.core.linked b.core.up b.core.down (kept_at id at kept (used_up b.core.table)) b.holder b.lost new table refl
-    (λ h. absurd (let begun = k.steady.sound.begun h in grind (arith, nat_tests, begun, above))) one (omega (arith, size, was, within, more)) k
+    (λ h. absurd (let begun = k.steady.sound.begun h in omega (arith, begun, above))) one (omega (arith, size, was, within, more)) k

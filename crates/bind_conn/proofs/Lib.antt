@@ -1,5 +1,4 @@
 pub mod Known
-pub mod Giving
 pub mod Sends
 pub mod Ends
 pub mod Tells
@@ -12,7 +11,6 @@ pub mod Strays
 pub mod Misfits
 pub mod Picks
 pub mod Clocks
-pub mod Joined
 pub mod Turns
 pub mod Severs
 pub mod Within

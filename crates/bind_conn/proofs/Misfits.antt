@@ -24,7 +24,8 @@ use Rattle.outbox.specs.declared.outbox.Outbox.{Outbox}
 use Rattle.conn_core.specs.Kept.{up_row}
 use Rattle.conn_core.specs.Did.{Did}
 use Rattle.bind_conn.specs.Part.{Knows, Fells, is_met, state}
-use Rattle.bind_conn.specs.Told.{told_of, who_told, is_dropped}
+use Rattle.conn_core.specs.Dropped.{is_dropped}
+use Rattle.bind_conn.specs.Told.{told_of, who_told}
 use Rattle.bind_conn.specs.declared.part.BindPart.{BindPart}
 use Rattle.bind_conn.specs.declared.told.Told.TheVariants.{Unfit}
 use Rattle.bind_conn.specs.declared.told.WhoTold.TheVariants as who

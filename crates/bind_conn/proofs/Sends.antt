@@ -31,7 +31,7 @@ use Rattle.conn_core.proofs.Plain.{rows-put}
 use Rattle.bind_conn.specs.Part.{Knows, IsOneBind, state}
 use Rattle.bind_conn.specs.declared.part.BindPart.{BindPart}
 use Rattle.bind_conn.proofs.Known.{knows-from}
-use Rattle.bind_conn.proofs.Giving.{giving-is, retires-is, passes-given}
+use Rattle.conn_core.proofs.Giving.{giving-is, retires-is, passes-given}
 
 three : (p : ConnectionState) (r t : Bool) (xs ys : List UpRow) (h k : Option OpName) → r ≡ t → xs ≡ ys → h ≡ k → record p { retired = r; rows = xs; holder = h } ≡ record p { retired = t; rows = ys; holder = k }
 three p r t xs ys h k e f g = ap (λ b. record p { retired = b; rows = xs; holder = h }) e ∙ ap (λ l. record p { retired = t; rows = l; holder = h }) f ∙ ap (λ o. record p { retired = t; rows = ys; holder = o }) g

@@ -25,12 +25,12 @@ use Rattle.conn_core.specs.Conn.{Conn}
 use Rattle.conn_core.specs.Kept.{up_row, open_rows}
 use Rattle.conn_core.specs.Closing.{holder_letters}
 use Rattle.conn_core.specs.Did.{Did}
+use Rattle.conn_core.proofs.Ends.{holder-is}
 use Rattle.bind_conn.specs.Part.{Knows, IsOneBind, state}
 use Rattle.bind_conn.specs.Told.{told_of}
 use Rattle.bind_conn.specs.declared.part.BindPart.{BindPart}
 use Rattle.bind_conn.specs.declared.told.Told.TheVariants.{More, Going, Done}
 use Rattle.bind_conn.proofs.Known.{knows-from}
-use Rattle.bind_conn.proofs.Ends.{holder-is}
 use Rattle.bind_conn.proofs.Meets.{alone, got-stays, got-goes, is-part, part-apart, more-row, more-stays, going, going-row, going-stays, done, done-row, done-goes}
 use Rattle.bind_conn.proofs.Gots.{message-good, row-answered, row-good, answer_act}
 
@@ -148,7 +148,7 @@ module _ (s : Settings) (b : BindPart) (o q : Outbox) (at id : ℕ) (rest : List
       let is : message s p m ≡ also (act (what.Got id rest ∷ []) []) a = message-good s b.core b.holder b.lost m r only.0 a (row-good s b.core b.holder b.lost m r only.0 at only.1 waits only.2 (final-fits f i g.0.final) (coded f (is_none code) g.0.coded)) (picked false false false g.0.part g.1 g.2) in
       subst (λ (x : Act). Did s p at mark x o q (state (record b { core = record b.core { moment = at; table = finished_at id b.core.table }; holder = None }))) (sym is) (record {
         entries = entries;
-        letters = letters ∙ sym (ap (λ (n : OpName). o.letters.items ++ (reply n rest true None ++ holder_letters b.core.number b.holder)) named) ∙ sym (ap (λ x. o.letters.items ++ (reply r.op rest true None ++ x)) (holder-is b.core b.holder b.lost));
+        letters = letters ∙ sym (ap (λ (n : OpName). o.letters.items ++ (reply n rest true None ++ holder_letters b.core.number b.holder)) named) ∙ sym (ap (λ x. o.letters.items ++ (reply r.op rest true None ++ x)) (holder-is b.core None b.lost [] b.holder));
         behind =
             ap (λ (t : Table). state (record b { core = record b.core { moment = at; table = t }; holder = None })) (finished-is id b.core.table r found only.0 only.2)
             ∙ sym (ap (λ (x : ConnectionState). record x { moment = at }) (got-goes b.core b.holder b.lost at m r only.0 true (done-row at m r only.1 waits only.2 told) (done-goes at m r only.1 waits only.2 told)));

@@ -1,5 +1,5 @@
 -- The part's beginning, and the end of its link.
-use Rattle.std.proofs.Common.{◌≡◌, ℕ, ◌+◌, ◌*◌, ◌≤◌, max, arith, Bool, true, false, ◌&&◌, if◌then◌else◌, [], ◌∷◌, length, Option, None, refl, ap, ◌∙◌, sym, subst}
+use Rattle.std.proofs.Common.{◌≡◌, ℕ, ◌+◌, ◌*◌, ◌≤◌, max, arith, Bool, true, false, if◌then◌else◌, [], ◌∷◌, length, Option, None, refl, ap, ◌∙◌, sym, subst}
 use Rattle.std.proofs.lemmas.Bool.Decides.{nat_tests}
 use Rattle.std.specs.Prelude.{nat_lt}
 use Rattle.lload_names.specs.declared.names.ConnKind.TheVariants.{Regular, Bind as BindKind}
@@ -10,17 +10,19 @@ use Rattle.lload_names.specs.declared.names.What.TheVariants as what
 use Rattle.lload_names.specs.declared.inputs.Effects.{Effects}
 use Rattle.lload_spec.specs.Settings.{Settings, is_of_kind}
 use Rattle.id_table.specs.Table.{IsTable}
-use Rattle.part_spec.specs.Inputs.{effects_of, marked_by, where_so}
+use Rattle.part_spec.specs.Inputs.{marked_by}
 use Rattle.part_spec.specs.ConnectionState.{ConnectionState, empty_connection, is_there, step_connections}
-use Rattle.part_spec.specs.ConnectionTurn.{goes_down, is_drained}
+use Rattle.part_spec.specs.ConnectionTurn.{is_drained}
 use Rattle.part_spec.specs.Turn.{connection_sever}
 use Rattle.conn_core.specs.Closing.{closing_letters}
 use Rattle.conn_core.specs.declared.settings.UpSettings.{UpSettings}
 use Rattle.conn_core.specs.Conn.{Conn, new_conn, state_of}
 use Rattle.conn_core.specs.Kept.{open_rows, EachOnce}
+use Rattle.conn_core.proofs.Ends as ends
+use Rattle.conn_core.proofs.Turns.{down-undrained}
 use Rattle.bind_conn.specs.Part.{Stands, IsMade, IsOneBind, state}
 use Rattle.bind_conn.specs.declared.part.BindPart.{BindPart}
-use Rattle.bind_conn.proofs.Ends.{closing-is, end-knows}
+use Rattle.bind_conn.proofs.Ends.{end-knows}
 
 pub new-stands : (s : Settings) (number : ℕ) (set : UpSettings) (b : BindPart) → b.core ≡ new_conn number BindKind set.id_limit set.timeout → IsTable b.core.table → b.holder ≡ None → b.lost ≡ None → 2 ≤ set.id_limit → IsMade s number set → Stands s (empty_connection s number) b
 new-stands s number set b core table holder lost least made =
@@ -54,18 +56,13 @@ new-stands s number set b core table holder lost least made =
 
 -- The end of its link.
 pub nothing-severed : (s : Settings) (p : ConnectionState) (b : BindPart) (now : ℕ) (why : EndWhy) → Stands s p b → is_there (state b) ≡ false → connection_sever p now why ≡ record { entries = []; letters = [] }
-nothing-severed s p b now why h gone = ap (λ (q : ConnectionState). connection_sever q now why) h.is ∙ ap (λ (t : Bool). effects_of (Connection b.core.number) (max b.core.moment now) (where_so t (goes_down (state b) why))) gone
+nothing-severed s p b now why h gone = ends.nothing-severed p now why (ap is_there h.is ∙ gone)
 
 pub severed-is : (s : Settings) (p : ConnectionState) (b : BindPart) (at now : ℕ) (why : EndWhy) → Stands s p b → is_there (state b) ≡ true → at ≡ max b.core.moment now → connection_sever p now why ≡ record { entries = record { part = Connection b.core.number; at = at; what = what.Down why } ∷ []; letters = closing_letters b.core.number b.core.kind b.core.table.rows b.holder }
 severed-is s p b at now why h there is =
     ap (λ (q : ConnectionState). connection_sever q now why) h.is
-    ∙ ap (λ (t : Bool). effects_of (Connection b.core.number) (max b.core.moment now) (where_so t (goes_down (state b) why))) there
-    ∙ sym (ap (λ (t : ℕ). effects_of (Connection b.core.number) t (goes_down (state b) why)) is)
-    ∙ ap (λ l. let e : Effects = record { entries = record { part = Connection b.core.number; at = at; what = what.Down why } ∷ []; letters = l } in e) (sym (closing-is b.core b.holder b.lost h.knows.steady.kind))
-
-fallen-not : (r a b : Bool) → (r && false && a && b) ≡ false
-fallen-not true a b = refl
-fallen-not false a b = refl
+    ∙ ends.severed-is (state b) at now why there is
+    ∙ sym (ap (λ l. let e : Effects = record { entries = record { part = Connection b.core.number; at = at; what = what.Down why } ∷ []; letters = l } in e) (ends.closing-is b.core None b.lost [] b.holder))
 
 pub severed-stands : (s : Settings) (p : ConnectionState) (b : BindPart) (w : Conn) (at now : ℕ) (why : EndWhy) → Stands s p b → is_there (state b) ≡ true → at ≡ max b.core.moment now → w ≡ record b.core { moment = at; down = true; table = record b.core.table { rows = [] } } → IsTable w.table → Stands s (step_connections s p (marked_by None (connection_sever p now why).entries)) (record b { core = w; holder = None; lost = b.holder })
 severed-stands s p b w at now why h there is new table =
@@ -77,5 +74,5 @@ severed-stands s p b w at now why h there is new table =
     record {
       is = now-is;
       knows = end-knows s b w at None b.holder new table h.knows;
-      undrained = ap is_drained now-is ∙ ap (λ (x : Conn). is_drained (state (record b { core = x; holder = None; lost = b.holder }))) new ∙ fallen-not (nat_lt b.core.table.limit b.core.table.ids.next) true true;
+      undrained = ap is_drained now-is ∙ ap (λ (x : Conn). is_drained (state (record b { core = x; holder = None; lost = b.holder }))) new ∙ down-undrained (nat_lt b.core.table.limit b.core.table.ids.next) true true;
     }

@@ -23,7 +23,7 @@ use Rattle.conn_core.specs.Conn.{Conn, state_of}
 use Rattle.conn_core.specs.Kept.{up_row}
 use Rattle.conn_core.specs.Did.{Did}
 use Rattle.bind_conn.specs.Part.{is_met, state}
-use Rattle.bind_conn.specs.Told.{is_dropped}
+use Rattle.conn_core.specs.Dropped.{is_dropped}
 use Rattle.bind_conn.specs.declared.part.BindPart.{BindPart}
 
 -- a row that a message doesn't meet

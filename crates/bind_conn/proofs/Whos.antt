@@ -30,11 +30,11 @@ use Rattle.outbox.specs.declared.outbox.Outbox.{Outbox}
 use Rattle.conn_core.specs.Kept.{up_row, up_kept}
 use Rattle.conn_core.specs.Closing.{holder_letters}
 use Rattle.conn_core.specs.Did.{Did}
+use Rattle.conn_core.proofs.Ends.{holder-is}
 use Rattle.bind_conn.specs.Part.{Knows, state}
 use Rattle.bind_conn.specs.Told.{who_told}
 use Rattle.bind_conn.specs.declared.part.BindPart.{BindPart}
 use Rattle.bind_conn.specs.declared.told.WhoTold.TheVariants as who
-use Rattle.bind_conn.proofs.Ends.{holder-is}
 use Rattle.bind_conn.proofs.Tells.{who-more-is, who-tells-is, who-refuses-is}
 use Rattle.bind_conn.proofs.Meets.{alone, bad-is, got-stays, got-goes}
 use Rattle.bind_conn.proofs.Gots.{good-by, message-good, answered-is}
@@ -138,7 +138,7 @@ module _ (s : Settings) (b : BindPart) (o q : Outbox) (at id first : ℕ) (rest 
     settled-did ls t e g entries letters =
         subst (λ (a : Act). Did s p at mark a o q (state (record b { core = record b.core { moment = at; table = finished_at first b.core.table }; holder = None }))) (sym (settled-is t e)) (record {
           entries = entries;
-          letters = letters ∙ sym (ap (λ y. o.letters.items ++ (ls ++ y)) (holder-is b.core b.holder b.lost)) ∙ sym (ap (λ y. o.letters.items ++ (y ++ holder_ended p)) g);
+          letters = letters ∙ sym (ap (λ y. o.letters.items ++ (ls ++ y)) (holder-is b.core None b.lost [] b.holder)) ∙ sym (ap (λ y. o.letters.items ++ (y ++ holder_ended p)) g);
           behind =
               ap (λ (y : Table). state (record b { core = record b.core { moment = at; table = y }; holder = None })) (finished-is first b.core.table r found only.0 only.2)
               ∙ sym (ap (λ (z : ConnectionState). record z { moment = at }) (got-goes b.core b.holder b.lost at m r only.0 true (goes-row settled) (go-is ∙ settled)));

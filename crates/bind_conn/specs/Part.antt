@@ -4,18 +4,14 @@ use Rattle.std.specs.List.{list_any}
 use Rattle.ldap_spec.specs.Messages.{Message}
 use Rattle.lload_names.specs.declared.names.OpKind.TheVariants.{Bind}
 use Rattle.lload_names.specs.declared.names.ConnKind.TheVariants.{Bind as BindKind}
-use Rattle.lload_names.specs.declared.names.EndWhy.TheVariants.{Drained}
 use Rattle.lload_names.specs.declared.names.Letter.{Letter}
-use Rattle.lload_names.specs.declared.names.Letter.TheVariants.{Forward, IsDown}
-use Rattle.lload_names.specs.declared.names.PartName.TheVariants.{Desk}
-use Rattle.lload_names.specs.declared.names.What.TheVariants as what
+use Rattle.lload_names.specs.declared.names.Letter.TheVariants.{Forward}
 use Rattle.lload_names.specs.declared.inputs.Input.{Input}
 use Rattle.lload_names.specs.declared.inputs.Input.TheVariants.{LetterFrom}
 use Rattle.lload_spec.specs.Settings.{Settings, is_of_kind}
 use Rattle.lload_spec.specs.BadMessages.{is_bad}
 use Rattle.id_table.specs.declared.row.Row.{Row}
 use Rattle.op_deadlines.specs.Due.{is_due}
-use Rattle.part_spec.specs.Inputs.{Act, act, nothing, to}
 use Rattle.part_spec.specs.ConnectionTurn.{is_drained}
 use Rattle.part_spec.specs.ConnectionState.{ConnectionState, UpRow, is_under, is_under_who, message_facts, with_got}
 use Rattle.conn_core.specs.declared.settings.UpSettings.{UpSettings}
@@ -79,7 +75,3 @@ IsTakenLetter b _ = ⊤
 abbrev pub IsTaken : BindPart → Input → Type 0
 IsTaken b (LetterFrom now word sender letter) = IsTakenLetter b letter
 IsTaken b _ = ⊤
-
--- the end of a retired connection with nothing left to do
-abbrev pub drained_act : ConnectionState → Act
-drained_act p = elim (is_drained p) [ true ↦ act (what.Down Drained ∷ []) (to Desk (IsDown p.number)) | false ↦ nothing ]

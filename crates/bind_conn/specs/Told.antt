@@ -1,7 +1,7 @@
 -- What a message tells of the Bind, or of the Who Am I, that it is under.
-use Rattle.std.specs.Prelude.{ℕ, Bool, true, false, ◌==◌, ◌&&◌, ◌||◌, nat_lt, List, Option, Some, None}
+use Rattle.std.specs.Prelude.{ℕ, Bool, true, false, ◌==◌, ◌&&◌, List, Option, Some, None}
 use Rattle.ldap_spec.specs.Tags.{success, bind_in_progress, extended_response}
-use Rattle.ldap_spec.specs.Kinds.{is_final, is_intermediate, is_response, tag_of}
+use Rattle.ldap_spec.specs.Kinds.{is_final, is_intermediate, tag_of}
 use Rattle.ldap_spec.specs.Responses.{result_code, tells_who}
 use Rattle.lload_names.specs.declared.names.OpKind.TheVariants.{Bind}
 use Rattle.bind_conn.specs.declared.told.Told.{Told}
@@ -41,9 +41,3 @@ who_by part extended tells =
 
 abbrev pub who_told : List ℕ → WhoTold
 who_told rest = who_by (is_intermediate rest) (tag_of rest == extended_response) (tells_who rest)
-
--- whether a message that is under nothing that waits is dropped: an extended response under 0, or a response under an
--- identifier that was given
-abbrev pub is_dropped : ℕ → ℕ → List ℕ → Bool
-is_dropped next id rest =
-    (id == 0 && tag_of rest == extended_response) || ((nat_lt 0 id && nat_lt id next) && is_response rest)

@@ -3,45 +3,18 @@ ghost use Rattle.lload_spec.specs.Settings.{Settings};
 ghost use Rattle.id_table.specs.Rows.{row_of};
 
 use crate::part::BindPart;
-use lload_names::{Body, Letter, NoMemory, OpName, What};
+use lload_names::{Body, NoMemory, OpName, What};
 use outbox::Outbox;
 
 impl BindPart {
     ghost use Rattle.std.specs.Option.{ForSome, IsSome};
     ghost use Rattle.part_spec.specs.Marked.{Taken};
-    ghost use Rattle.part_spec.specs.Inputs.{reply};
     ghost use Rattle.part_spec.specs.BindTurn.{message};
     ghost use Rattle.conn_core.specs.Closing.{holder_letters};
     ghost use Rattle.conn_core.specs.Did.{Did};
     ghost use Rattle.bind_conn.specs.declared.told.Told.TheVariants.{More, Going, Done};
     ghost use Rattle.bind_conn.specs.Told.{told_of};
     ghost use Rattle.bind_conn.specs.Part.{Knows, state};
-
-    /// Posts a reply to an operation's client, for which there is room.
-    pub(crate) fn reply(
-        &self,
-        op: OpName,
-        rest: Body,
-        last: bool,
-        who: Option<Body>,
-        out: &mut Outbox,
-    )
-        requires { 1 ≤ out.old.letters.spare }
-        ensures letters { out.new.letters.items ≡ out.old.letters.items ++ reply op rest last who }
-        ensures letter_room { out.new.letters.spare + 1 ≡ out.old.letters.spare }
-        ensures entries { out.new.entries ≡ out.old.entries }
-    {
-        self.core.tell_client(
-            op.client,
-            Letter::Reply {
-                op,
-                rest,
-                last,
-                who,
-            },
-            out,
-        );
-    }
 
     /// The holder lets go of the connection, and the desk hears its end. There is room for that.
     pub(crate) fn release(&mut self, out: &mut Outbox)
@@ -52,7 +25,7 @@ impl BindPart {
         ensures entries { out.new.entries ≡ out.old.entries }
     {
         if let Some(holder) = self.holder {
-            self.tell_end(holder, out);
+            self.core.tell_end(holder, None, out);
         }
         self.holder = None;
     }
@@ -79,7 +52,7 @@ impl BindPart {
         self.core.put(at, What::Got { id, rest: told }, out);
         self.core.touch(id, at);
         self.core.moved(at);
-        self.reply(op, rest, false, None, out);
+        self.core.reply(op, rest, false, None, out);
         Ok(())
     }
 
@@ -106,7 +79,7 @@ impl BindPart {
         self.core.put(at, What::Got { id, rest: told }, out);
         self.core.finish(id);
         self.core.moved(at);
-        self.reply(op, rest, true, None, out);
+        self.core.reply(op, rest, true, None, out);
         Ok(())
     }
 
@@ -132,7 +105,7 @@ impl BindPart {
         self.core.put(at, What::Got { id, rest: told }, out);
         self.core.finish(id);
         self.core.moved(at);
-        self.reply(op, rest, true, None, out);
+        self.core.reply(op, rest, true, None, out);
         self.release(out);
         Ok(())
     }

@@ -4,7 +4,7 @@ ghost use Rattle.id_table.specs.Rows.{row_of};
 ghost use Rattle.op_deadlines.specs.Due.{is_due};
 
 use crate::part::BindPart;
-use lload_names::{EndWhy, Letter, NoMemory, OpName, Refusal, What};
+use lload_names::{EndWhy, NoMemory, OpName, Refusal, What};
 use outbox::Outbox;
 
 /// A live Bind that is due: its identifier and operation.
@@ -48,14 +48,7 @@ impl BindPart {
         self.core.reserve_end(2, 3, out)?;
         self.core.end(id);
         self.core.put(at, What::Expired { op }, out);
-        self.core.tell_client(
-            op.client,
-            Letter::Failed {
-                op,
-                which: Refusal::C5,
-            },
-            out,
-        );
+        self.core.fail(op, Refusal::C5, out);
         self.end(at, EndWhy::TimedOut, out);
         Ok(())
     }

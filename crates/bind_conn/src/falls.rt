@@ -4,7 +4,6 @@ ghost use Rattle.lload_spec.specs.Settings.{Settings};
 ghost use Rattle.id_table.specs.Rows.{row_of};
 
 use crate::part::BindPart;
-use crate::told::{is_extended, is_response};
 use lload_names::{Body, EndWhy, NoMemory, What};
 use outbox::Outbox;
 
@@ -13,9 +12,10 @@ impl BindPart {
     ghost use Rattle.part_spec.specs.Marked.{Taken};
     ghost use Rattle.part_spec.specs.BindTurn.{message};
     ghost use Rattle.conn_core.specs.Did.{Did};
+    ghost use Rattle.conn_core.specs.Dropped.{is_dropped};
     ghost use Rattle.bind_conn.specs.declared.told.Told.TheVariants.{Unfit};
     ghost use Rattle.bind_conn.specs.declared.told.WhoTold.TheVariants as told;
-    ghost use Rattle.bind_conn.specs.Told.{told_of, who_told, is_dropped};
+    ghost use Rattle.bind_conn.specs.Told.{told_of, who_told};
     ghost use Rattle.bind_conn.specs.Part.{Knows, Fells, is_met, state};
 
     /// A message that takes the connection down.
@@ -90,17 +90,6 @@ impl BindPart {
         Ok(())
     }
 
-    /// Whether a message that is under nothing that waits is dropped: an extended response under 0, or a response under
-    /// an identifier that was given.
-    fn is_dropped(&self, id: u32, rest: &[u8]) -> bool
-        ensures { result ≡ is_dropped self.now.core.table.ids.next id rest.now }
-    {
-        if id == 0 && is_extended(rest) {
-            return true;
-        }
-        self.core.was_given(id) && is_response(rest)
-    }
-
     /// A message that is under nothing that waits: it has no effect, or the connection ends.
     pub(crate) fn stray(
         &mut self,
@@ -116,7 +105,7 @@ impl BindPart {
         ensures out { OnErr result ((out.new.entries.items ≡ out.old.entries.items) × (out.new.letters.items ≡ out.old.letters.items)) }
         ensures err { OnErr result (self.new ≡ self.old) }
     {
-        if self.is_dropped(id, rest.as_slice()) {
+        if self.core.is_dropped(id, rest.as_slice()) {
             return self.ignore(at, id, rest, out);
         }
         self.fall(at, id, rest, out)

@@ -5,7 +5,7 @@ ghost use Rattle.lload_spec.specs.Settings.{Settings};
 ghost use Rattle.id_table.specs.Table.{passes_limit};
 
 use crate::part::{BindPart, is_of};
-use lload_names::{Body, Letter, NoMemory, OpKind, OpName, Refusal, What};
+use lload_names::{Body, NoMemory, OpKind, OpName, Refusal, What};
 use outbox::Outbox;
 
 impl BindPart {
@@ -52,7 +52,7 @@ impl BindPart {
         ensures entries { out.new.entries ≡ out.old.entries }
     {
         if !is_of(self.lost, holder) {
-            self.tell_end(holder, out);
+            self.core.tell_end(holder, None, out);
         }
     }
 
@@ -75,14 +75,7 @@ impl BindPart {
         let _ = rest;
         out.reserve(2, 4)?;
         self.core.put(at, What::Missed { op }, out);
-        self.core.tell_client(
-            op.client,
-            Letter::Failed {
-                op,
-                which: Refusal::C4,
-            },
-            out,
-        );
+        self.core.fail(op, Refusal::C4, out);
         self.tell_missed(holder, out);
         self.holder = None;
         self.core.moved(at);

@@ -7,7 +7,7 @@ ghost use Rattle.id_table.specs.Rows.{row_of};
 use crate::part::BindPart;
 use id_table::Kept;
 use ldap_messages::{who_rest, who_value};
-use lload_names::{Body, Letter, NoMemory, OpName, Refusal, What};
+use lload_names::{Body, NoMemory, OpName, Refusal, What};
 use outbox::Outbox;
 
 impl BindPart {
@@ -123,7 +123,7 @@ impl BindPart {
         self.core.put(at, What::Got { id, rest }, out);
         self.core.finish(first);
         self.core.moved(at);
-        self.reply(op, kept, true, who, out);
+        self.core.reply(op, kept, true, who, out);
         self.release(out);
         Ok(())
     }
@@ -151,14 +151,7 @@ impl BindPart {
         self.core.put(at, What::Got { id, rest }, out);
         self.core.finish(first);
         self.core.moved(at);
-        self.core.tell_client(
-            op.client,
-            Letter::Failed {
-                op,
-                which: Refusal::C9,
-            },
-            out,
-        );
+        self.core.fail(op, Refusal::C9, out);
         self.release(out);
         Ok(())
     }

@@ -17,6 +17,8 @@ mod letters;
 mod part;
 mod step;
 mod surface;
+#[cfg(test)]
+mod tests;
 mod told;
 
 pub use part::BindPart;

@@ -31,14 +31,13 @@ pub(crate) fn is_of(named: Option<OpName>, op: OpName) -> bool
 
 impl BindPart {
     ghost use Rattle.part_spec.specs.Marked.{Taken};
-    ghost use Rattle.part_spec.specs.Inputs.{act, to, entries_of};
+    ghost use Rattle.part_spec.specs.Inputs.{act, entries_of};
     ghost use Rattle.part_spec.specs.ConnectionState.{with_down};
     ghost use Rattle.part_spec.specs.ConnectionTurn.{down_letters, is_drained};
     ghost use Rattle.part_spec.specs.BindTurn.{link_up, leaves};
-    ghost use Rattle.lload_names.specs.declared.names.PartName.TheVariants.{Desk};
-    ghost use Rattle.lload_names.specs.declared.names.Letter.TheVariants.{Ended};
     ghost use Rattle.conn_core.specs.Did.{Did};
-    ghost use Rattle.bind_conn.specs.Part.{Knows, drained_act, state};
+    ghost use Rattle.conn_core.specs.Turned.{drained_act};
+    ghost use Rattle.bind_conn.specs.Part.{Knows, state};
 
     /// It is linked, and up at once.
     pub(crate) fn begin(&mut self, at: u64, out: &mut Outbox) -> Result<(), NoMemory>
@@ -57,24 +56,6 @@ impl BindPart {
         let conn = self.core.number();
         self.core.tell_desk(Letter::IsUp { conn }, out);
         Ok(())
-    }
-
-    /// Posts the letter of an operation's end, for which there is room.
-    pub(crate) fn tell_end(&self, op: OpName, out: &mut Outbox)
-        requires { 1 ≤ out.old.letters.spare }
-        ensures letters { out.new.letters.items ≡ out.old.letters.items ++ to Desk (Ended op self.now.core.number None) }
-        ensures letter_room { out.new.letters.spare + 1 ≡ out.old.letters.spare }
-        ensures entries { out.new.entries ≡ out.old.entries }
-    {
-        let conn = self.core.number();
-        self.core.tell_desk(
-            Letter::Ended {
-                op,
-                conn,
-                latency: None,
-            },
-            out,
-        );
     }
 
     /// A letter that comes to nothing.

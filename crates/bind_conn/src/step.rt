@@ -10,13 +10,14 @@ use outbox::Outbox;
 impl BindPart {
     ghost use Rattle.std.specs.Prelude.{ℕ};
     ghost use Rattle.part_spec.specs.ConnectionState.{ConnectionState};
+    ghost use Rattle.conn_core.specs.Turned.{Turned, IsSame};
     ghost use Rattle.bind_conn.specs.Part.{Stands, IsTaken};
-    ghost use Rattle.bind_conn.specs.Turned.{Turned, IsSame};
 
     /// Takes an input, and appends what its rule makes: entries of the connection's list, and letters to other parts. An
-    /// input without a rule leaves the part as it was and gives nothing. For want of memory nothing changes.
+    /// input without a rule leaves the part as it was and gives nothing. For want of memory nothing changes. A Forward may be
+    /// taken where it is of a Bind, and no operation is live here.
     pub fn step(&mut self, input: Input, out: &mut Outbox) -> Result<(), NoMemory>
-        ensures turned { OnOk result ((s : Settings) (p : ConnectionState) → Stands s p self.old → IsTaken self.old input → Turned s p input out.old out.new self.new) }
+        ensures turned { OnOk result ((s : Settings) (p : ConnectionState) → Stands s p self.old → IsTaken self.old input → Turned s p input out.old out.new (λ q. Stands s q self.new)) }
         ensures out { OnErr result (IsSame out.old out.new) }
         ensures err { OnErr result (self.new ≡ self.old) }
     {
@@ -35,7 +36,7 @@ impl BindPart {
 
     /// The connection is linked.
     fn step_link(&mut self, now: u64, out: &mut Outbox) -> Result<(), NoMemory>
-        ensures turned { OnOk result ((s : Settings) (p : ConnectionState) → Stands s p self.old → Turned s p (LinkUp now) out.old out.new self.new) }
+        ensures turned { OnOk result ((s : Settings) (p : ConnectionState) → Stands s p self.old → Turned s p (LinkUp now) out.old out.new (λ q. Stands s q self.new)) }
         ensures out { OnErr result (IsSame out.old out.new) }
         ensures err { OnErr result (self.new ≡ self.old) }
     {
@@ -56,7 +57,7 @@ impl BindPart {
         rest: Body,
         out: &mut Outbox,
     ) -> Result<(), NoMemory>
-        ensures turned { OnOk result ((s : Settings) (p : ConnectionState) → Stands s p self.old → Turned s p (Message now id rest) out.old out.new self.new) }
+        ensures turned { OnOk result ((s : Settings) (p : ConnectionState) → Stands s p self.old → Turned s p (Message now id rest) out.old out.new (λ q. Stands s q self.new)) }
         ensures out { OnErr result (IsSame out.old out.new) }
         ensures err { OnErr result (self.new ≡ self.old) }
     {
@@ -74,7 +75,7 @@ impl BindPart {
 
     /// A letter comes.
     fn step_letter(&mut self, now: u64, letter: Letter, out: &mut Outbox) -> Result<(), NoMemory>
-        ensures turned { OnOk result ((s : Settings) (p : ConnectionState) (word : ℕ) (sender : PartName) → Stands s p self.old → IsTaken self.old (LetterFrom now word sender letter) → Turned s p (LetterFrom now word sender letter) out.old out.new self.new) }
+        ensures turned { OnOk result ((s : Settings) (p : ConnectionState) (word : ℕ) (sender : PartName) → Stands s p self.old → IsTaken self.old (LetterFrom now word sender letter) → Turned s p (LetterFrom now word sender letter) out.old out.new (λ q. Stands s q self.new)) }
         ensures out { OnErr result (IsSame out.old out.new) }
         ensures err { OnErr result (self.new ≡ self.old) }
     {
@@ -89,7 +90,7 @@ impl BindPart {
 
     /// The clock moves.
     fn step_tick(&mut self, now: u64, out: &mut Outbox) -> Result<(), NoMemory>
-        ensures turned { OnOk result ((s : Settings) (p : ConnectionState) → Stands s p self.old → Turned s p (Tick now) out.old out.new self.new) }
+        ensures turned { OnOk result ((s : Settings) (p : ConnectionState) → Stands s p self.old → Turned s p (Tick now) out.old out.new (λ q. Stands s q self.new)) }
         ensures out { OnErr result (IsSame out.old out.new) }
         ensures err { OnErr result (self.new ≡ self.old) }
     {

@@ -1,4 +1,4 @@
-ghost use Rattle.std.specs.Prelude.{◌≡◌, ◌≤◌, None, IfOk};
+ghost use Rattle.std.specs.Prelude.{◌≡◌, ◌≤◌, ◌*◌, None, IfOk};
 ghost use Rattle.lload_spec.specs.Settings.{Settings};
 
 use crate::part::BindPart;
@@ -14,7 +14,9 @@ impl BindPart {
     ghost use Rattle.part_spec.specs.Inputs.{marked_by};
     ghost use Rattle.part_spec.specs.ConnectionState.{ConnectionState, empty_connection, step_connections};
     ghost use Rattle.part_spec.specs.Turn.{connection_turn, connection_sever};
-    ghost use Rattle.bind_conn.specs.Most.{most_of, IsWithin};
+    ghost use Rattle.conn_core.specs.Most.{IsWithin};
+    ghost use Rattle.conn_core.specs.Turned.{behind};
+    ghost use Rattle.bind_conn.specs.Most.{most_of};
     ghost use Rattle.bind_conn.specs.Part.{Stands, IsMade};
 
     /// The part of a connection that isn't linked yet. It has no own Bind, whatever the settings say.
@@ -65,10 +67,12 @@ impl BindPart {
         self.core.sever(at, why, holder)
     }
 
-    /// How many entries, and how many letters, a step or the end of the link gives now at most. It takes no memory.
+    /// How many entries, and how many letters, a step or the end of the link gives now at most. A step doubles it at most.
+    /// It takes no memory.
     pub fn most(&self) -> u64
         ensures most { (s : Settings) (p : ConnectionState) → Stands s p self.now → result ≡ most_of p }
         ensures step { (s : Settings) (p : ConnectionState) (input : Input) → Stands s p self.now → IsWithin result (connection_turn s p input) }
+        ensures doubles { (s : Settings) (p : ConnectionState) (input : Input) → Stands s p self.now → most_of (behind s p input) ≤ 2 * result }
         ensures sever { (s : Settings) (p : ConnectionState) (now : ℕ) (why : EndWhy) → Stands s p self.now → IsWithin result (connection_sever p now why) }
     {
         2 * self.core.len() as u64 + 4

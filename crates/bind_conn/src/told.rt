@@ -1,10 +1,8 @@
-ghost use Rattle.std.specs.Prelude.{◌≡◌, ◌==◌};
-ghost use Rattle.ldap_spec.specs.Tags.{extended_response};
-ghost use Rattle.ldap_spec.specs.Kinds.{is_response, tag_of};
+ghost use Rattle.std.specs.Prelude.{◌≡◌};
 ghost use Rattle.ldap_spec.specs.Responses.{tells_who};
 ghost use Rattle.bind_conn.specs.Told.{told_of, by_code, who_told};
 
-use ldap_messages::{response_kind, result_code, who_value};
+use ldap_messages::{result_code, who_value};
 use proxy_authz::readable_who;
 
 /// What a message tells of the Bind that it is under.
@@ -85,18 +83,4 @@ pub(crate) fn who_told(rest: &[u8]) -> WhoTold
         return WhoTold::Tells;
     }
     WhoTold::Refuses
-}
-
-/// Whether the rest of a message is an extended response.
-pub(crate) fn is_extended(rest: &[u8]) -> bool
-    ensures { result ≡ (tag_of rest.now == extended_response) }
-{
-    rest.first() == Some(&0x78)
-}
-
-/// Whether it is a response at all.
-pub(crate) fn is_response(rest: &[u8]) -> bool
-    ensures { result ≡ is_response rest.now }
-{
-    response_kind(rest).is_some()
 }

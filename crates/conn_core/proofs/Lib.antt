@@ -2,3 +2,10 @@ pub mod Moments
 pub mod Rows
 pub mod Keeps
 pub mod Plain
+pub mod Giving
+pub mod Owns
+pub mod Joined
+pub mod Turns
+pub mod Ends
+pub mod Grows
+pub mod Small

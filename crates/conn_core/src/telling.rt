@@ -1,10 +1,11 @@
 ghost use Rattle.std.specs.Prelude.{◌≡◌, ◌==◌, ◌≤◌, ◌+◌, ◌++◌, ◌∷◌, []};
+ghost use Rattle.lload_names.specs.declared.names.Letter.TheVariants.{Ended};
 ghost use Rattle.lload_names.specs.declared.names.PartName.TheVariants.{Desk, Client, Up};
-ghost use Rattle.part_spec.specs.Inputs.{entries_of, to};
+ghost use Rattle.part_spec.specs.Inputs.{entries_of, failed, reply, to};
 ghost use Rattle.conn_core.specs.Closing.{given_whats, retired_letters};
 
 use crate::conn::ConnCore;
-use lload_names::{Entry, Letter, PartName, Posted, What};
+use lload_names::{Body, Entry, Letter, OpName, PartName, Posted, Refusal, What};
 use outbox::Outbox;
 
 impl ConnCore {
@@ -59,6 +60,53 @@ impl ConnCore {
             to: PartName::Client(client),
             letter,
         });
+    }
+
+    /// Posts a reply to an operation's client, for which there is room.
+    pub fn reply(&self, op: OpName, rest: Body, last: bool, who: Option<Body>, out: &mut Outbox)
+        requires { 1 ≤ out.old.letters.spare }
+        ensures letters { out.new.letters.items ≡ out.old.letters.items ++ reply op rest last who }
+        ensures letter_room { out.new.letters.spare + 1 ≡ out.old.letters.spare }
+        ensures entries { out.new.entries ≡ out.old.entries }
+    {
+        self.tell_client(
+            op.client,
+            Letter::Reply {
+                op,
+                rest,
+                last,
+                who,
+            },
+            out,
+        );
+    }
+
+    /// Posts an operation's failure to its client, for which there is room.
+    pub fn fail(&self, op: OpName, which: Refusal, out: &mut Outbox)
+        requires { 1 ≤ out.old.letters.spare }
+        ensures letters { out.new.letters.items ≡ out.old.letters.items ++ failed op which }
+        ensures letter_room { out.new.letters.spare + 1 ≡ out.old.letters.spare }
+        ensures entries { out.new.entries ≡ out.old.entries }
+    {
+        self.tell_client(op.client, Letter::Failed { op, which }, out);
+    }
+
+    /// Posts an operation's end to the desk, with its latency in milliseconds where it was answered. There is room for
+    /// that.
+    pub fn tell_end(&self, op: OpName, latency: Option<u32>, out: &mut Outbox)
+        requires { 1 ≤ out.old.letters.spare }
+        ensures letters { out.new.letters.items ≡ out.old.letters.items ++ to Desk (Ended op self.now.number latency) }
+        ensures letter_room { out.new.letters.spare + 1 ≡ out.old.letters.spare }
+        ensures entries { out.new.entries ≡ out.old.entries }
+    {
+        self.tell_desk(
+            Letter::Ended {
+                op,
+                conn: self.number(),
+                latency,
+            },
+            out,
+        );
     }
 
     /// Tells the desk that it is retired, where this identifier is the limit. There is room for that.

@@ -31,23 +31,24 @@ use Rattle.conn_core.specs.Did.{Did}
 use Rattle.conn_core.specs.Kept.{up_row, has_op, EachOnce}
 use Rattle.conn_core.specs.Closing.{given_whats, retired_letters, closing_letters}
 use Rattle.conn_core.proofs.Plain.{flat-none, none-below, same-sym}
+use Rattle.conn_core.proofs.Giving.{giving-is, retires-is, used-passes}
+use Rattle.conn_core.proofs.Owns.{next-above, not-first, own-step}
+use Rattle.conn_core.proofs.Joined.{did-also, did-nothing}
+use Rattle.conn_core.proofs.Ends.{closing-is}
 use Rattle.upstream_conn.specs.Part.{Knows, OwnIsGiven, state, up_wait}
 use Rattle.upstream_conn.specs.Ticks.{abandon_of, rest_act, due_ids}
 use Rattle.upstream_conn.specs.declared.clock.Abandon.{Abandon}
 use Rattle.upstream_conn.specs.declared.part.OwnWait.{OwnWait}
 use Rattle.upstream_conn.specs.declared.part.UpstreamPart.{UpstreamPart}
 use Rattle.upstream_conn.proofs.Sound.{not-head, plain-without}
-use Rattle.upstream_conn.proofs.Sends.{giving-is, retires-is}
-use Rattle.upstream_conn.proofs.Falls.{losses-are}
 use Rattle.upstream_conn.proofs.Lasts.{row-id}
-use Rattle.upstream_conn.proofs.Joined.{did-also, did-nothing}
-use Rattle.upstream_conn.proofs.Owns.{own-leaves, own-step, not-first, next-above, used-passes}
+use Rattle.upstream_conn.proofs.Owns.{own-leaves}
 
 -- The connection ends by itself.
-pub goes-did : (s : Settings) (u : UpstreamPart) (w : Conn) (o q : Outbox) (at : ℕ) (why : EndWhy) (mark : Option Taken) → u.core.kind ≡ Regular → q.entries.items ≡ o.entries.items ++ entries_of (Connection u.core.number) at (what.Down why ∷ []) → q.letters.items ≡ o.letters.items ++ closing_letters u.core.number u.core.kind u.core.table.rows None → w ≡ record u.core { moment = at; down = true; table = record u.core.table { rows = [] } } → Did s (state u) at mark (goes_down (state u) why) o q (state (record u { core = w }))
-goes-did s u w o q at why mark regular entries letters new = record {
+pub goes-did : (s : Settings) (u : UpstreamPart) (w : Conn) (o q : Outbox) (at : ℕ) (why : EndWhy) (mark : Option Taken) → q.entries.items ≡ o.entries.items ++ entries_of (Connection u.core.number) at (what.Down why ∷ []) → q.letters.items ≡ o.letters.items ++ closing_letters u.core.number u.core.kind u.core.table.rows None → w ≡ record u.core { moment = at; down = true; table = record u.core.table { rows = [] } } → Did s (state u) at mark (goes_down (state u) why) o q (state (record u { core = w }))
+goes-did s u w o q at why mark entries letters new = record {
   entries = entries;
-  letters = letters ∙ sym (ap (λ l. o.letters.items ++ (l ++ ([] ++ to Desk (IsDown u.core.number)))) (losses-are u.core (up_wait u.own) u.waiting u.core.table.rows regular));
+  letters = letters ∙ ap (λ l. o.letters.items ++ l) (closing-is u.core (up_wait u.own) None u.waiting None);
   behind = ap (λ (x : Conn). state (record u { core = x })) new;
 }
 

@@ -1,33 +1,28 @@
 -- A message that takes the connection down.
-use Rattle.std.proofs.Common.{◌≡◌, ℕ, zero, suc, ◌+◌, ◌*◌, ◌≤◌, arith, true, false, List, [], ◌∷◌, ◌++◌, map, length, Option, Some, None, refl, ap, ◌∙◌, sym, subst}
-use Rattle.std.specs.Prelude.{flat_map}
+use Rattle.std.proofs.Common.{◌≡◌, ℕ, zero, suc, ◌+◌, ◌*◌, ◌≤◌, arith, true, false, List, [], ◌∷◌, ◌++◌, length, Option, Some, None, refl, ap, ◌∙◌, sym, subst}
 use Rattle.ldap_spec.specs.Messages.{Message}
 use Rattle.ldap_spec.specs.Kinds.{fits, is_final}
-use Rattle.lload_names.specs.declared.names.ConnKind.{ConnKind}
-use Rattle.lload_names.specs.declared.names.ConnKind.TheVariants.{Regular, Bind as BindKind}
+use Rattle.lload_names.specs.declared.names.ConnKind.TheVariants.{Regular}
 use Rattle.lload_names.specs.declared.names.EndWhy.{EndWhy}
 use Rattle.lload_names.specs.declared.names.EndWhy.TheVariants.{Bad as BadEnd}
-use Rattle.lload_names.specs.declared.names.Posted.{Posted}
-use Rattle.lload_names.specs.declared.names.PartName.TheVariants.{Desk, Up as Connection}
-use Rattle.lload_names.specs.declared.names.Letter.TheVariants.{Ended, IsDown}
-use Rattle.lload_names.specs.declared.names.Refusal.TheVariants.{C4}
+use Rattle.lload_names.specs.declared.names.PartName.TheVariants.{Up as Connection}
 use Rattle.lload_names.specs.declared.names.What.TheVariants as what
-use Rattle.lload_names.specs.Same.{is_kind}
 use Rattle.lload_spec.specs.Settings.{Settings, is_of_kind}
 use Rattle.id_table.specs.declared.row.Row.{Row}
 use Rattle.id_table.specs.Rows.{row_of, Rises}
 use Rattle.id_table.specs.Table.{Table, IsTable}
 use Rattle.part_spec.specs.Marked.{Taken}
-use Rattle.part_spec.specs.Inputs.{Act, act, also, to, failed, entries_of}
+use Rattle.part_spec.specs.Inputs.{Act, act, also, entries_of}
 use Rattle.part_spec.specs.ConnectionState.{ConnectionState, OwnWait as UpWait, with_got}
-use Rattle.part_spec.specs.ConnectionTurn.{goes_down, loss}
+use Rattle.part_spec.specs.ConnectionTurn.{goes_down}
 use Rattle.part_spec.specs.RegularTurn.{message}
 use Rattle.outbox.specs.declared.outbox.Outbox.{Outbox}
 use Rattle.conn_core.specs.Conn.{Conn, state_of}
-use Rattle.conn_core.specs.Kept.{up_row, ArePlain, EachOnce, open_rows}
-use Rattle.conn_core.specs.Closing.{lost_letters, closing_letters}
+use Rattle.conn_core.specs.Kept.{ArePlain, EachOnce, open_rows}
+use Rattle.conn_core.specs.Closing.{closing_letters}
 use Rattle.conn_core.specs.Did.{Did}
 use Rattle.conn_core.proofs.Plain.{none-below}
+use Rattle.conn_core.proofs.Ends.{closing-is}
 use Rattle.upstream_conn.specs.Part.{Knows, OwnIsGiven, state, closed, up_wait, under_own}
 use Rattle.upstream_conn.specs.Told.{told_of}
 use Rattle.upstream_conn.specs.declared.part.OwnWait.{OwnWait}
@@ -36,25 +31,12 @@ use Rattle.upstream_conn.specs.declared.told.Told.TheVariants.{Unfit}
 use Rattle.upstream_conn.proofs.Messages.{told-unfit}
 use Rattle.upstream_conn.proofs.Meets.{message-bad, unfit-bad, got-unfit}
 
--- the letters of its end
-pub losses-are : (c : Conn) (own : Option UpWait) (waiting : List ℕ) (rows : List Row) → c.kind ≡ Regular → flat_map (loss (state_of c own None None waiting)) (map up_row rows) ≡ lost_letters c.number c.kind rows
-losses-are c own waiting [] h = refl
-losses-are c own waiting (r ∷ rs) h = ap (λ l. l ++ flat_map (loss (state_of c own None None waiting)) (map up_row rs)) (one c.kind h) ∙ ap (λ l. lost_letters c.number c.kind (r ∷ []) ++ l) (losses-are c own waiting rs h) ∙ whole c.kind
-  where
-    one : (k : ConnKind) → k ≡ Regular → (failed r.op C4 ++ (let l : List Posted = elim (is_kind BindKind k) [ true ↦ [] | false ↦ to Desk (Ended r.op c.number None) ] in l)) ≡ lost_letters c.number k (r ∷ [])
-    one Regular e = refl
-    one BindKind e = absurd (let bad : BindKind ≡ Regular = e in cc)
-
-    whole : (k : ConnKind) → lost_letters c.number k (r ∷ []) ++ lost_letters c.number k rs ≡ lost_letters c.number k (r ∷ rs)
-    whole Regular = refl
-    whole BindKind = refl
-
 -- what is appended, and the state behind it
-pub fall-did : (s : Settings) (u v : UpstreamPart) (o q : Outbox) (at id : ℕ) (rest : List ℕ) (why : EndWhy) (own : Option OwnWait) (mark : Option Taken) → u.core.kind ≡ Regular → with_got at (record { id = id; rest = rest }) (state u) ≡ state_of u.core (up_wait own) None None u.waiting → message (state u) at (record { id = id; rest = rest }) ≡ also (act (what.Got id rest ∷ []) []) (goes_down (state u) why) → q.entries.items ≡ o.entries.items ++ entries_of (Connection u.core.number) at (what.Got id rest ∷ what.Down why ∷ []) → q.letters.items ≡ o.letters.items ++ closing_letters u.core.number u.core.kind u.core.table.rows None → closed u at own v → Did s (state u) at mark (message (state u) at (record { id = id; rest = rest })) o q (state v)
-fall-did s u v o q at id rest why own mark regular got is entries letters end =
+pub fall-did : (s : Settings) (u v : UpstreamPart) (o q : Outbox) (at id : ℕ) (rest : List ℕ) (why : EndWhy) (own : Option OwnWait) (mark : Option Taken) → with_got at (record { id = id; rest = rest }) (state u) ≡ state_of u.core (up_wait own) None None u.waiting → message (state u) at (record { id = id; rest = rest }) ≡ also (act (what.Got id rest ∷ []) []) (goes_down (state u) why) → q.entries.items ≡ o.entries.items ++ entries_of (Connection u.core.number) at (what.Got id rest ∷ what.Down why ∷ []) → q.letters.items ≡ o.letters.items ++ closing_letters u.core.number u.core.kind u.core.table.rows None → closed u at own v → Did s (state u) at mark (message (state u) at (record { id = id; rest = rest })) o q (state v)
+fall-did s u v o q at id rest why own mark got is entries letters end =
     subst (λ (a : Act). Did s (state u) at mark a o q (state v)) (sym is) (record {
       entries = entries;
-      letters = letters ∙ sym (ap (λ l. o.letters.items ++ (l ++ ([] ++ to Desk (IsDown u.core.number)))) (losses-are u.core (up_wait u.own) u.waiting u.core.table.rows regular));
+      letters = letters ∙ ap (λ l. o.letters.items ++ l) (closing-is u.core (up_wait u.own) None u.waiting None);
       behind =
           ap (λ (w : Conn). state_of w (up_wait v.own) None None v.waiting) end.0
           ∙ ap (λ (w : Option OwnWait). state_of (record u.core { moment = at; down = true; table = record u.core.table { rows = [] } }) (up_wait w) None None v.waiting) end.1

@@ -30,7 +30,8 @@ use Rattle.conn_core.specs.Kept.{open_rows, ArePlain}
 use Rattle.conn_core.proofs.Plain.{named-none}
 use Rattle.conn_core.proofs.Rows.{changed-length}
 use Rattle.upstream_conn.specs.Part.{Knows, OwnIsGiven, state, up_wait, under_own}
-use Rattle.upstream_conn.specs.Told.{told_of, own_told, is_dropped}
+use Rattle.conn_core.specs.Dropped.{is_dropped}
+use Rattle.upstream_conn.specs.Told.{told_of, own_told}
 use Rattle.upstream_conn.specs.declared.part.UpstreamPart.{UpstreamPart}
 use Rattle.upstream_conn.specs.declared.told.Told.TheVariants.{More}
 use Rattle.upstream_conn.specs.declared.told.OwnTold.{OwnTold}

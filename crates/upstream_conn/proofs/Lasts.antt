@@ -29,7 +29,8 @@ use Rattle.conn_core.specs.Did.{Did}
 use Rattle.conn_core.specs.Kept.{up_row, open_rows, ArePlain, EachOnce}
 use Rattle.conn_core.proofs.Rows.{without-length}
 use Rattle.upstream_conn.specs.Part.{Knows, OwnIsGiven, state, up_wait, under_own}
-use Rattle.upstream_conn.specs.Told.{told_of, own_told, is_dropped}
+use Rattle.conn_core.specs.Dropped.{is_dropped}
+use Rattle.upstream_conn.specs.Told.{told_of, own_told}
 use Rattle.upstream_conn.specs.declared.part.OwnWait.{OwnWait}
 use Rattle.upstream_conn.specs.declared.part.UpstreamPart.{UpstreamPart}
 use Rattle.upstream_conn.specs.declared.told.Told.TheVariants.{Last}

@@ -8,7 +8,6 @@ pub mod Falls
 pub mod Lasts
 pub mod Owns
 pub mod OwnBinds
-pub mod Joined
 pub mod Expiries
 pub mod Turns
 pub mod Severs

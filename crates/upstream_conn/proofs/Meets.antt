@@ -22,7 +22,8 @@ use Rattle.conn_core.specs.Conn.{Conn, state_of}
 use Rattle.conn_core.specs.Kept.{up_row, up_found, ArePlain}
 use Rattle.conn_core.proofs.Plain.{flat-none, flat-gone, flat-changed, skip-none, skip-one, find-under, find-request, none-under-who, asked}
 use Rattle.upstream_conn.specs.Part.{up_wait, under_own}
-use Rattle.upstream_conn.specs.Told.{told_of, is_dropped}
+use Rattle.conn_core.specs.Dropped.{is_dropped}
+use Rattle.upstream_conn.specs.Told.{told_of}
 use Rattle.upstream_conn.specs.declared.part.OwnWait.{OwnWait}
 use Rattle.upstream_conn.specs.declared.told.Told.TheVariants.{Unfit, More, Last}
 use Rattle.upstream_conn.proofs.Messages.{under-own-is, for-own-is, plain-at, leaves, skips, more-row, last-row, unfit-row, more-frees, last-frees, unfit-frees, got-other}

@@ -24,10 +24,9 @@ use Rattle.conn_core.specs.Conn.{Conn}
 use Rattle.conn_core.specs.Did.{Did}
 use Rattle.conn_core.specs.Kept.{up_row, open_rows}
 use Rattle.conn_core.specs.Closing.{given_whats, retired_letters}
+use Rattle.conn_core.proofs.Giving.{giving-is, retires-is, used-passes}
 use Rattle.upstream_conn.specs.Part.{Knows, state}
 use Rattle.upstream_conn.specs.declared.part.UpstreamPart.{UpstreamPart}
-use Rattle.upstream_conn.proofs.Sends.{giving-is, retires-is}
-use Rattle.upstream_conn.proofs.Owns.{used-passes}
 
 asked-own : (o : Option OwnBind) (rest : List ℕ) → (let x : Option (List ℕ) = elim o [ None ↦ None | Some own ↦ Some (simple_bind own.dn own.credentials) ] in x) ≡ Some rest → (own : OwnBind) × (o ≡ Some own) × (simple_bind own.dn own.credentials ≡ rest)
 asked-own None rest h = absurd (let bad : ◌≡◌ {A = Option (List ℕ)} None (Some rest) = h in cc)

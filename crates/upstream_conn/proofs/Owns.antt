@@ -11,22 +11,19 @@ use Rattle.ldap_spec.specs.Kinds.{same_kind}
 use Rattle.ldap_spec.specs.Bodies.{abandon, who_am_i}
 use Rattle.lload_names.specs.declared.names.OpName.{OpName}
 use Rattle.lload_names.specs.declared.names.OpKind.TheVariants.{Bind}
-use Rattle.lload_names.specs.declared.names.Entry.{Entry}
 use Rattle.lload_names.specs.declared.names.PartName.TheVariants.{Desk, Up as Connection}
 use Rattle.lload_names.specs.declared.names.Letter.TheVariants.{Ended}
 use Rattle.lload_names.specs.declared.names.What.TheVariants as what
 use Rattle.lload_names.specs.Same.{same_op}
 use Rattle.lload_spec.specs.Lists.{passes}
 use Rattle.lload_spec.specs.Settings.{Settings}
-use Rattle.lload_spec.specs.Identifiers.{with_own_id}
-use Rattle.lload_spec.specs.OneEach.{begins_with_bind, is_own_bind}
 use Rattle.id_table.specs.declared.row.Row.{Row}
 use Rattle.id_table.specs.declared.row.Kept.{Kept}
 use Rattle.id_table.specs.Rows.{row_of, id_of, without, Rises}
-use Rattle.id_table.specs.Table.{Table, IsTable, ended_at, used_up, may_own, passes_limit}
+use Rattle.id_table.specs.Table.{IsTable, ended_at, used_up, may_own, passes_limit}
 use Rattle.part_spec.specs.Marked.{Taken}
 use Rattle.part_spec.specs.Inputs.{Act, act, to, entries_of, marked_by}
-use Rattle.part_spec.specs.ConnectionState.{ConnectionState, UpRow, behind_own, is_abandoned_by, is_first_bind, step_connections}
+use Rattle.part_spec.specs.ConnectionState.{ConnectionState, UpRow, behind_own, is_abandoned_by, step_connections}
 use Rattle.part_spec.specs.ConnectionTurn.{retires}
 use Rattle.part_spec.specs.RegularTurn.{drops, abandons}
 use Rattle.outbox.specs.declared.outbox.Outbox.{Outbox}
@@ -34,13 +31,13 @@ use Rattle.conn_core.specs.Conn.{Conn}
 use Rattle.conn_core.specs.Did.{Did}
 use Rattle.conn_core.specs.Kept.{up_row, up_kept, open_rows, IsPlain, ArePlain}
 use Rattle.conn_core.specs.Closing.{given_whats, retired_letters}
-use Rattle.conn_core.proofs.Moments.{rises-length}
+use Rattle.conn_core.proofs.Giving.{giving-is, retires-is, used-passes}
+use Rattle.conn_core.proofs.Owns.{next-above, not-first, own-step}
 use Rattle.conn_core.proofs.Plain.{Leaves, flat-gone, same-sym}
 use Rattle.upstream_conn.specs.Part.{Knows, state}
 use Rattle.upstream_conn.specs.declared.part.UpstreamPart.{UpstreamPart}
-use Rattle.upstream_conn.proofs.Sound.{open-plain, passes-given}
+use Rattle.upstream_conn.proofs.Sound.{open-plain}
 use Rattle.upstream_conn.proofs.Messages.{plain-at}
-use Rattle.upstream_conn.proofs.Sends.{giving-is, retires-is}
 use Rattle.upstream_conn.proofs.Lasts.{row-id, row-gone}
 
 -- Abandons of two identifiers are two.
@@ -87,28 +84,6 @@ module _ (own id : ℕ) where
 
   pub own-rows : (next : ℕ) (rows : List Row) (r : Row) → Rises 1 rows next → ArePlain rows → row_of id rows ≡ Some r → flat_map (behind_own m) (map up_row rows) ≡ map up_row (without id rows)
   own-rows next rows r rises plain found = flat-gone (behind_own m) id own-leaves 1 next rows r rises plain found (own-ends rows r plain found)
-
--- The state behind an own message that isn't the own Bind.
-pub own-step : (s : Settings) (p : ConnectionState) (at : ℕ) (mark : Option Taken) (rest : List ℕ) (xs : List UpRow) (r b : Bool) → is_first_bind s p (record { part = Connection p.number; at = at; what = what.Own p.ids.next rest }) ≡ false → flat_map (behind_own (record { id = p.ids.next; rest = rest })) p.rows ≡ xs → r ≡ (if b then true else p.retired) → record p { moment = at; retired = r; ids = with_own_id p.ids.next p.ids; rows = xs } ≡ step_connections s p (marked_by mark (entries_of (Connection p.number) at (given_whats b (what.Own p.ids.next rest))))
-own-step s p at mark rest xs r true first rows e =
-    ap (λ t. record p { moment = at; retired = t; ids = with_own_id p.ids.next p.ids; rows = xs }) e
-    ∙ ap (λ l. record p { moment = at; retired = true; ids = with_own_id p.ids.next p.ids; rows = l }) (sym rows)
-    ∙ ap (λ (t : Bool). record p { moment = at; retired = true; ids = with_own_id p.ids.next p.ids; rows = flat_map (behind_own (record { id = p.ids.next; rest = rest })) p.rows; own_bind = if t then Some (record { id = p.ids.next; at = at }) else p.own_bind }) (sym first)
-own-step s p at mark rest xs r false first rows e =
-    ap (λ t. record p { moment = at; retired = t; ids = with_own_id p.ids.next p.ids; rows = xs }) e
-    ∙ ap (λ l. record p { moment = at; ids = with_own_id p.ids.next p.ids; rows = l }) (sym rows)
-    ∙ ap (λ (t : Bool). record p { moment = at; ids = with_own_id p.ids.next p.ids; rows = flat_map (behind_own (record { id = p.ids.next; rest = rest })) p.rows; own_bind = if t then Some (record { id = p.ids.next; at = at }) else p.own_bind }) (sym first)
-
-no-middle : (a b c : Bool) → b ≡ false → (a && b && c) ≡ false
-no-middle a b c h = grind (arith, nat_tests, h)
-
-pub not-first : (s : Settings) (p : ConnectionState) (e : Entry) → (p.ids.next == 1) ≡ false → is_first_bind s p e ≡ false
-not-first s p e h = no-middle (begins_with_bind s p.number) (p.ids.next == 1) (is_own_bind s e) h
-
--- a live row was given its identifier
-pub next-above : (id low next : ℕ) (rows : List Row) (r : Row) → Rises low rows next → 1 ≤ low → row_of id rows ≡ Some r → (next == 1) ≡ false
-next-above id low next [] r h l e = absurd (let bad : ◌≡◌ {A = Option Row} None (Some r) = e in cc)
-next-above id low next (x ∷ xs) r h l e = let few = rises-length (x.id + 1) next xs h.1 in let above : 2 ≤ next = omega (arith, few, h.0, l) in grind (arith, nat_tests, above)
 
 pub gone-length : (id : ℕ) (rows : List Row) (r : Row) → row_of id rows ≡ Some r → length (without id rows) + 1 ≡ length rows
 gone-length id [] r h = absurd (let bad : ◌≡◌ {A = Option Row} None (Some r) = h in cc)
@@ -158,16 +133,6 @@ named-some op id low next (x ∷ xs) h e = by (same_op x.op op) refl e (named-so
           omega (arith, h.0, above),
         )
 
--- whether the limit was given, behind an own identifier
-pub used-passes : (t : Table) → passes_limit (used_up t) ≡ (if t.ids.next == t.limit then true else passes_limit t)
-used-passes t = passes-given t.limit t.ids.next t.ids.next (omega arith) ∙ swap (passes_limit t) (t.ids.next == t.limit)
-  where
-    swap : (b c : Bool) → (if b then true else c) ≡ (if c then true else b)
-    swap true true = refl
-    swap true false = refl
-    swap false true = refl
-    swap false false = refl
-
 -- A live operation that is abandoned.
 pub abandon-did : (s : Settings) (u : UpstreamPart) (o q : Outbox) (at id own : ℕ) (op : OpName) (mark : Option Taken) → Knows s u → id_of op u.core.table.rows ≡ Some id → own ≡ u.core.table.ids.next → q.entries.items ≡ o.entries.items ++ entries_of (Connection u.core.number) at (given_whats (own == u.core.table.limit) (what.Own own (abandon id))) → q.letters.items ≡ o.letters.items ++ (to Desk (Ended op u.core.number None) ++ retired_letters u.core.number (own == u.core.table.limit)) → Did s (state u) at mark (drops s (state u) op) o q (state (record u { core = record u.core { moment = at; table = ended_at id (used_up u.core.table) } }))
 abandon-did s u o q at id own op mark k named given entries letters =
@@ -198,5 +163,5 @@ abandon-knows s u w at id r found new table k =
     let within = k.steady.sound.within in
     let more : max u.core.table.ids.next (suc u.core.table.ids.next) ≡ u.core.table.ids.next + 1 = omega arith in
     row-gone s u w at id (ended_at id (used_up u.core.table)) new table refl refl
-    (λ h. absurd (let one = k.steady.sound.begun h in let no = next-above id 1 u.core.table.ids.next u.core.table.rows r k.steady.sound.table.rises (omega arith) found in grind (arith, nat_tests, one, no)))
+    (λ h. absurd (let one = k.steady.sound.begun h in let no = next-above id 1 u.core.table.ids.next u.core.table.rows r k.steady.sound.table.rises (omega arith) found in omega (arith, one, no)))
     (omega (arith, some, was, within, more)) k

@@ -7,9 +7,8 @@ use Rattle.lload_names.specs.declared.names.OpKind.TheVariants.{Bind}
 use Rattle.lload_names.specs.declared.names.ConnKind.{ConnKind}
 use Rattle.lload_names.specs.declared.names.ConnKind.TheVariants.{Regular, Bind as BindKind}
 use Rattle.lload_names.specs.declared.names.PartName.{PartName}
-use Rattle.lload_names.specs.declared.names.PartName.TheVariants.{Desk, Up as Connection}
-use Rattle.lload_names.specs.declared.names.Letter.TheVariants.{Forward, IsRetired}
-use Rattle.lload_names.specs.declared.names.What.{What}
+use Rattle.lload_names.specs.declared.names.PartName.TheVariants.{Up as Connection}
+use Rattle.lload_names.specs.declared.names.Letter.TheVariants.{Forward}
 use Rattle.lload_names.specs.declared.names.What.TheVariants as what
 use Rattle.lload_names.specs.Same.{same_kind, is_kind}
 use Rattle.lload_spec.specs.Settings.{Settings}
@@ -18,7 +17,7 @@ use Rattle.id_table.specs.declared.row.Row.{Row}
 use Rattle.id_table.specs.Rows.{id_of, put, sent_row}
 use Rattle.id_table.specs.Table.{IsTable, gave, passes_limit}
 use Rattle.part_spec.specs.Marked.{Taken}
-use Rattle.part_spec.specs.Inputs.{Act, act, to, entries_of, marked_by}
+use Rattle.part_spec.specs.Inputs.{Act, act, entries_of, marked_by}
 use Rattle.part_spec.specs.ConnectionState.{ConnectionState, UpRow, OwnWait as UpWait, is_stopped, step_connections}
 use Rattle.part_spec.specs.ConnectionTurn.{giving, retires}
 use Rattle.part_spec.specs.RegularTurn.{forwards}
@@ -30,25 +29,11 @@ use Rattle.conn_core.specs.Did.{Did}
 use Rattle.conn_core.proofs.Moments.{rises-length}
 use Rattle.conn_core.proofs.Rows.{put-length, fresh, first-le}
 use Rattle.conn_core.proofs.Plain.{rows-put}
+use Rattle.conn_core.proofs.Giving.{giving-is, retires-is, passes-given}
 use Rattle.upstream_conn.specs.Part.{Knows, OwnIsGiven, state, up_wait}
 use Rattle.upstream_conn.specs.declared.part.OwnWait.{OwnWait}
 use Rattle.upstream_conn.specs.declared.part.UpstreamPart.{UpstreamPart}
-use Rattle.upstream_conn.proofs.Sound.{none-has, once-put, plain-put, open-plain, passes-given}
-
--- by the settings, and by the limit
-pub giving-is : (s : Settings) (id limit : ℕ) (w : What) → s.id_limit ≡ limit → giving s id w ≡ given_whats (id == limit) w
-giving-is s id limit w e = by (id == s.id_limit) ∙ ap (λ n. given_whats (id == n) w) e
-  where
-    by : (b : Bool) → (elim b [ true ↦ w ∷ what.Retired ∷ [] | false ↦ w ∷ [] ]) ≡ given_whats b w
-    by true = refl
-    by false = refl
-
-pub retires-is : (s : Settings) (p : ConnectionState) (id limit : ℕ) → s.id_limit ≡ limit → retires s p id ≡ retired_letters p.number (id == limit)
-retires-is s p id limit e = by (id == s.id_limit) ∙ ap (λ n. retired_letters p.number (id == n)) e
-  where
-    by : (b : Bool) → (elim b [ true ↦ to Desk (IsRetired p.number) | false ↦ [] ]) ≡ retired_letters p.number b
-    by true = refl
-    by false = refl
+use Rattle.upstream_conn.proofs.Sound.{none-has, once-put, plain-put, open-plain}
 
 -- a state in which these differ
 pub three : (p : ConnectionState) (r t : Bool) (xs ys : List UpRow) (h k : Option OpName) → r ≡ t → xs ≡ ys → h ≡ k → record p { retired = r; rows = xs; holder = h } ≡ record p { retired = t; rows = ys; holder = k }
@@ -93,13 +78,8 @@ sent-did s u w o q at sender op kind ask rest holder id k going there is new ent
           ∙ sym (ap (λ ws. step_connections s p (marked_by (Some (record { sender = sender; letter = Forward op kind rest ask holder })) (entries_of (Connection u.core.number) at ws))) whats);
     }
   where
-    swap : (b c : Bool) → b ≡ false → (if b then true else c) ≡ (if c then true else b)
-    swap false true e = refl
-    swap false false e = refl
-    swap true c e = absurd (let bad : true ≡ false = e in cc)
-
     passes-sent : (b : Bool) → (id_for u.core.table.ids == u.core.table.limit) ≡ b → passes_limit (gave op kind ask at u.core.table) ≡ (if b then true else passes_limit u.core.table)
-    passes-sent b e = passes-given u.core.table.limit u.core.table.ids.next (id_for u.core.table.ids) (first-le u.core.table.ids k.steady.sound.table.ids) ∙ swap (passes_limit u.core.table) (id_for u.core.table.ids == u.core.table.limit) going ∙ ap (λ (c : Bool). if c then true else passes_limit u.core.table) e
+    passes-sent b e = passes-given u.core.table.limit u.core.table.ids.next (id_for u.core.table.ids) (first-le u.core.table.ids k.steady.sound.table.ids) ∙ ap (λ (c : Bool). if c then true else passes_limit u.core.table) e
 
 -- and what is known behind it
 pub sent-knows : (s : Settings) (u : UpstreamPart) (w : Conn) (at : ℕ) (op : OpName) (kind : OpKind) (ask : Bool) → passes_limit u.core.table ≡ false → u.core.linked ≡ true → u.core.up ≡ true → same_kind Bind kind ≡ false → id_of op u.core.table.rows ≡ None → w ≡ record u.core { moment = at; table = gave op kind ask at u.core.table } → IsTable w.table → Knows s u → Knows s (record u { core = w })

@@ -5,8 +5,7 @@ use Rattle.std.specs.Prelude.{nat_lt}
 use Rattle.lload_names.specs.declared.names.ConnKind.{ConnKind}
 use Rattle.lload_names.specs.declared.names.ConnKind.TheVariants.{Regular, Bind as BindKind}
 use Rattle.lload_names.specs.declared.names.EndWhy.{EndWhy}
-use Rattle.lload_names.specs.declared.names.PartName.TheVariants.{Desk, Up as Connection}
-use Rattle.lload_names.specs.declared.names.Letter.TheVariants.{IsDown}
+use Rattle.lload_names.specs.declared.names.PartName.TheVariants.{Up as Connection}
 use Rattle.lload_names.specs.declared.names.What.TheVariants as what
 use Rattle.lload_names.specs.declared.inputs.Effects.{Effects}
 use Rattle.lload_names.specs.declared.plans.Place.{Place}
@@ -14,18 +13,20 @@ use Rattle.lload_names.specs.Same.{is_kind}
 use Rattle.lload_spec.specs.Settings.{Settings, is_of_kind, place_at}
 use Rattle.lload_spec.specs.Pauses.{is_waiting}
 use Rattle.id_table.specs.Table.{IsTable}
-use Rattle.part_spec.specs.Inputs.{to, effects_of, marked_by, where_so}
+use Rattle.part_spec.specs.Inputs.{marked_by}
 use Rattle.part_spec.specs.ConnectionState.{ConnectionState, kind_at, empty_connection, is_there, is_holding, step_connections}
-use Rattle.part_spec.specs.ConnectionTurn.{goes_down, is_drained}
+use Rattle.part_spec.specs.ConnectionTurn.{is_drained}
 use Rattle.part_spec.specs.Turn.{connection_sever}
 use Rattle.conn_core.specs.declared.settings.UpSettings.{UpSettings}
 use Rattle.conn_core.specs.Conn.{Conn, new_conn, state_of}
 use Rattle.conn_core.specs.Kept.{open_rows, ArePlain, EachOnce}
 use Rattle.conn_core.specs.Closing.{closing_letters}
+use Rattle.conn_core.proofs.Ends as ends
+use Rattle.conn_core.proofs.Turns.{down-undrained}
 use Rattle.upstream_conn.specs.Part.{Stands, IsMade, OwnIsGiven, state, up_wait, request_of}
 use Rattle.upstream_conn.specs.declared.part.OwnWait.{OwnWait}
 use Rattle.upstream_conn.specs.declared.part.UpstreamPart.{UpstreamPart}
-use Rattle.upstream_conn.proofs.Falls.{losses-are, fall-knows}
+use Rattle.upstream_conn.proofs.Falls.{fall-knows}
 
 -- The beginning.
 no-bind-kind : (o : Option Place) → (let b : Bool = elim o [ None ↦ false | Some p ↦ is_kind Regular p.kind ] in b) ≡ true → (let b : Bool = elim o [ None ↦ false | Some p ↦ is_kind BindKind p.kind ] in b) ≡ false
@@ -82,18 +83,13 @@ holding-is s p u h = ap is_holding h.is ∙ ap (λ (k : ConnKind). is_kind Regul
 
 -- The end of its link.
 pub nothing-severed : (s : Settings) (p : ConnectionState) (u : UpstreamPart) (now : ℕ) (why : EndWhy) → Stands s p u → is_there (state u) ≡ false → connection_sever p now why ≡ record { entries = []; letters = [] }
-nothing-severed s p u now why h gone = ap (λ (q : ConnectionState). connection_sever q now why) h.is ∙ ap (λ (b : Bool). effects_of (Connection u.core.number) (max u.core.moment now) (where_so b (goes_down (state u) why))) gone
+nothing-severed s p u now why h gone = ends.nothing-severed p now why (ap is_there h.is ∙ gone)
 
 pub severed-is : (s : Settings) (p : ConnectionState) (u : UpstreamPart) (at now : ℕ) (why : EndWhy) → Stands s p u → is_there (state u) ≡ true → at ≡ max u.core.moment now → connection_sever p now why ≡ record { entries = record { part = Connection u.core.number; at = at; what = what.Down why } ∷ []; letters = closing_letters u.core.number u.core.kind u.core.table.rows None }
 severed-is s p u at now why h there is =
     ap (λ (q : ConnectionState). connection_sever q now why) h.is
-    ∙ ap (λ (b : Bool). effects_of (Connection u.core.number) (max u.core.moment now) (where_so b (goes_down (state u) why))) there
-    ∙ sym (ap (λ (t : ℕ). effects_of (Connection u.core.number) t (goes_down (state u) why)) is)
-    ∙ ap (λ l. let e : Effects = record { entries = record { part = Connection u.core.number; at = at; what = what.Down why } ∷ []; letters = l ++ ([] ++ to Desk (IsDown u.core.number)) } in e) (losses-are u.core (up_wait u.own) u.waiting u.core.table.rows h.knows.steady.kind)
-
-fallen-not : (r a b : Bool) → (r && false && a && b) ≡ false
-fallen-not true a b = refl
-fallen-not false a b = refl
+    ∙ ends.severed-is (state u) at now why there is
+    ∙ sym (ap (λ l. let e : Effects = record { entries = record { part = Connection u.core.number; at = at; what = what.Down why } ∷ []; letters = l } in e) (ends.closing-is u.core (up_wait u.own) None u.waiting None))
 
 pub severed-stands : (s : Settings) (p : ConnectionState) (u : UpstreamPart) (w : Conn) (at now : ℕ) (why : EndWhy) → Stands s p u → is_there (state u) ≡ true → at ≡ max u.core.moment now → w ≡ record u.core { moment = at; down = true; table = record u.core.table { rows = [] } } → IsTable w.table → Stands s (step_connections s p (marked_by None (connection_sever p now why).entries)) (record u { core = w })
 severed-stands s p u w at now why h there is new table =
@@ -105,5 +101,5 @@ severed-stands s p u w at now why h there is new table =
     record {
       is = now-is;
       knows = fall-knows s u v at u.own (new, refl, refl) refl table h.knows.steady.own h.knows.steady.fresh h.knows;
-      undrained = ap is_drained now-is ∙ ap (λ (x : Conn). is_drained (state (record u { core = x }))) new ∙ fallen-not (nat_lt u.core.table.limit u.core.table.ids.next) true true;
+      undrained = ap is_drained now-is ∙ ap (λ (x : Conn). is_drained (state (record u { core = x }))) new ∙ down-undrained (nat_lt u.core.table.limit u.core.table.ids.next) true true;
     }

@@ -1,6 +1,5 @@
 -- What stands of a connection, where a row comes, goes or is answered.
-use Rattle.std.proofs.Common.{◌≡◌, ℕ, suc, ◌≤◌, max, Bool, true, false, ◌==◌, if◌then◌else◌, List, [], ◌∷◌, Option, Some, None, arith, refl, ap, ◌∙◌, sym}
-use Rattle.std.proofs.lemmas.Bool.Decides.{nat_tests}
+use Rattle.std.proofs.Common.{◌≡◌, ℕ, Bool, true, false, ◌==◌, if◌then◌else◌, List, [], ◌∷◌, Option, Some, None, refl, ap, ◌∙◌, sym}
 use Rattle.std.specs.Prelude.{nat_lt, is_none, cond}
 use Rattle.lload_names.specs.declared.names.OpName.{OpName}
 use Rattle.lload_names.specs.Same.{same_op}
@@ -111,7 +110,3 @@ plain-answered now id (x ∷ xs) p = by (x.id == id) (p.0, plain-answered now id
 pub open-plain : (rows : List Row) → ArePlain rows → open_rows rows ≡ rows
 open-plain [] p = refl
 open-plain (r ∷ rs) p = ap (λ (o : Bool). cond o (r ∷ open_rows rs) (open_rows rs)) (ap is_none p.0.kept) ∙ ap (λ l. r ∷ l) (open-plain rs p.1)
-
--- whether the limit was given, behind an identifier more
-pub passes-given : (limit next id : ℕ) → id ≤ next → nat_lt limit (max next (suc id)) ≡ (if nat_lt limit next then true else id == limit)
-passes-given limit next id l = grind (arith, nat_tests, l)

@@ -2,5 +2,4 @@ pub mod Waits
 pub mod Told
 pub mod Part
 pub mod Ticks
-pub mod Turned
 pub mod Most

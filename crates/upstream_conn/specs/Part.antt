@@ -1,5 +1,5 @@
 -- For which states a regular connection's part stands.
-use Rattle.std.specs.Prelude.{◌≡◌, ◌≤◌, ◌==◌, ℕ, Bool, true, false, List, [], ◌∷◌, Option, Some, None, ⊤}
+use Rattle.std.specs.Prelude.{◌≡◌, ◌≤◌, ◌==◌, ℕ, Bool, true, false, List, [], Option, Some, None, ⊤}
 use Rattle.ldap_spec.specs.Bodies.{simple_bind}
 use Rattle.ldap_spec.specs.Kinds.{same_kind}
 use Rattle.lload_names.specs.declared.names.OpKind.TheVariants.{Bind}
@@ -8,12 +8,7 @@ use Rattle.lload_names.specs.declared.names.Letter.{Letter}
 use Rattle.lload_names.specs.declared.names.Letter.TheVariants.{Forward}
 use Rattle.lload_names.specs.declared.inputs.Input.{Input}
 use Rattle.lload_names.specs.declared.inputs.Input.TheVariants.{LetterFrom}
-use Rattle.lload_names.specs.declared.names.EndWhy.TheVariants.{Drained}
-use Rattle.lload_names.specs.declared.names.Letter.TheVariants.{IsDown}
-use Rattle.lload_names.specs.declared.names.PartName.TheVariants.{Desk}
-use Rattle.lload_names.specs.declared.names.What.TheVariants as what
 use Rattle.lload_spec.specs.Settings.{Settings, is_of_kind}
-use Rattle.part_spec.specs.Inputs.{Act, act, nothing, to}
 use Rattle.id_table.specs.Rows.{id_of}
 use Rattle.part_spec.specs.ConnectionState.{ConnectionState, OwnWait as UpWait}
 use Rattle.part_spec.specs.ConnectionTurn.{is_drained}
@@ -90,10 +85,6 @@ IsTakenLetter u _ = ⊤
 abbrev pub IsTaken : UpstreamPart → Input → Type 0
 IsTaken u (LetterFrom now word sender letter) = IsTakenLetter u letter
 IsTaken u _ = ⊤
-
--- the end of a retired connection with nothing left to do
-abbrev pub drained_act : ConnectionState → Act
-drained_act p = elim (is_drained p) [ true ↦ act (what.Down Drained ∷ []) (to Desk (IsDown p.number)) | false ↦ nothing ]
 
 -- the part behind the connection's end
 abbrev pub closed : UpstreamPart → ℕ → Option OwnWait → UpstreamPart → Type 0

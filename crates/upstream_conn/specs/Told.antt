@@ -1,7 +1,7 @@
 -- What a message tells of the request that it is under.
-use Rattle.std.specs.Prelude.{ℕ, Bool, true, false, ◌==◌, ◌&&◌, ◌||◌, nat_lt, List}
-use Rattle.ldap_spec.specs.Tags.{success, bind_response, extended_response}
-use Rattle.ldap_spec.specs.Kinds.{fits, is_final, is_response, tag_of}
+use Rattle.std.specs.Prelude.{ℕ, true, false, ◌==◌, List}
+use Rattle.ldap_spec.specs.Tags.{success, bind_response}
+use Rattle.ldap_spec.specs.Kinds.{fits, is_final, tag_of}
 use Rattle.ldap_spec.specs.Responses.{has_code}
 use Rattle.lload_names.specs.declared.names.OpKind.{OpKind}
 use Rattle.upstream_conn.specs.declared.told.Told.{Told}
@@ -20,9 +20,3 @@ own_told rest =
       | false ↦ own.Unfit
       | true ↦ elim (has_code success rest) [ true ↦ own.Success | false ↦ own.Refused ]
     ]
-
--- whether a message that is under nothing that waits is dropped: an extended response under 0, or a response under an
--- identifier that was given
-abbrev pub is_dropped : ℕ → ℕ → List ℕ → Bool
-is_dropped next id rest =
-    (id == 0 && tag_of rest == extended_response) || ((nat_lt 0 id && nat_lt id next) && is_response rest)

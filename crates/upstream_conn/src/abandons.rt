@@ -34,7 +34,7 @@ impl UpstreamPart {
         self.core
             .put_giving(at, own, What::Own { id: own, rest }, out);
         self.core.moved(at);
-        self.end(op, None, out);
+        self.core.tell_end(op, None, out);
         self.core.tell_retired(own, out);
         Ok(())
     }

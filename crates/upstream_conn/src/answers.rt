@@ -4,7 +4,6 @@ ghost use Rattle.lload_spec.specs.Owed.{latency_between};
 ghost use Rattle.id_table.specs.Rows.{row_of};
 
 use crate::part::UpstreamPart;
-use crate::told::{is_extended, is_response};
 use lload_names::{Body, EndWhy, NoMemory, OpName, What};
 use outbox::Outbox;
 
@@ -23,7 +22,7 @@ impl UpstreamPart {
     ghost use Rattle.conn_core.specs.Did.{Did};
     ghost use Rattle.upstream_conn.specs.declared.told.OwnTold.TheVariants.{Unfit as OwnUnfit, Refused};
     ghost use Rattle.upstream_conn.specs.declared.told.Told.TheVariants.{Last};
-    ghost use Rattle.upstream_conn.specs.Told.{own_told, told_of, is_dropped};
+    ghost use Rattle.upstream_conn.specs.Told.{own_told, told_of};
     ghost use Rattle.upstream_conn.specs.Part.{Knows, state, under_own};
 
     /// A message that is the last answer to a live operation: the operation ends, and its identifier is free.
@@ -50,8 +49,8 @@ impl UpstreamPart {
         self.core.put(at, What::Got { id, rest: told }, out);
         self.core.finish(id);
         self.core.moved(at);
-        self.reply(op, rest, true, out);
-        self.end(op, Some(latency(sent, at)), out);
+        self.core.reply(op, rest, true, None, out);
+        self.core.tell_end(op, Some(latency(sent, at)), out);
         Ok(())
     }
 
@@ -97,17 +96,6 @@ impl UpstreamPart {
         Ok(())
     }
 
-    /// Whether a message that is under nothing that waits is dropped: an extended response under 0, or a response under
-    /// an identifier that was given.
-    fn is_dropped(&self, id: u32, rest: &[u8]) -> bool
-        ensures { result ≡ is_dropped self.now.core.table.ids.next id rest.now }
-    {
-        if id == 0 && is_extended(rest) {
-            return true;
-        }
-        self.core.was_given(id) && is_response(rest)
-    }
-
     /// A message that is under nothing that waits: it has no effect, or the connection ends.
     pub(crate) fn stray(
         &mut self,
@@ -125,7 +113,7 @@ impl UpstreamPart {
         ensures out { OnErr result ((out.new.entries.items ≡ out.old.entries.items) × (out.new.letters.items ≡ out.old.letters.items)) }
         ensures err { OnErr result (self.new ≡ self.old) }
     {
-        if self.is_dropped(id, rest.as_slice()) {
+        if self.core.is_dropped(id, rest.as_slice()) {
             return self.ignore(at, id, rest, out);
         }
         self.fall(at, id, rest, self.own, EndWhy::Bad, out)?;

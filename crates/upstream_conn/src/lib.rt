@@ -16,6 +16,8 @@ mod links;
 mod part;
 mod step;
 mod surface;
+#[cfg(test)]
+mod tests;
 mod told;
 mod waiting;
 

@@ -41,18 +41,20 @@ impl UpstreamPart {
     ghost use Rattle.part_spec.specs.Marked.{Taken};
     ghost use Rattle.part_spec.specs.ConnectionTurn.{is_drained};
     ghost use Rattle.part_spec.specs.RegularTurn.{forwards, drops, link_up, message};
-    ghost use Rattle.part_spec.specs.Inputs.{act, to, failed, reply, entries_of};
+    ghost use Rattle.part_spec.specs.Inputs.{act, to, failed, entries_of};
     ghost use Rattle.lload_names.specs.declared.names.PartName.TheVariants.{Desk};
     ghost use Rattle.lload_names.specs.declared.names.Letter.TheVariants.{Ended};
     ghost use Rattle.upstream_conn.specs.declared.told.OwnTold.TheVariants.{Success};
     ghost use Rattle.upstream_conn.specs.declared.told.Told.TheVariants.{Unfit, More, Last};
-    ghost use Rattle.upstream_conn.specs.Told.{own_told, told_of, is_dropped};
+    ghost use Rattle.conn_core.specs.Dropped.{is_dropped};
+    ghost use Rattle.conn_core.specs.Turned.{drained_act};
+    ghost use Rattle.upstream_conn.specs.Told.{own_told, told_of};
     ghost use Rattle.conn_core.specs.Closing.{closing_letters};
     ghost use Rattle.id_table.specs.Table.{IsTable};
     ghost use Rattle.std.specs.Option.{ForSome, IsSome};
     ghost use Rattle.std.specs.Prelude.{◌||◌, ◌+◌};
     ghost use Rattle.conn_core.specs.Did.{Did};
-    ghost use Rattle.upstream_conn.specs.Part.{Knows, state, drained_act, closed, under_own, IsTakenLetter};
+    ghost use Rattle.upstream_conn.specs.Part.{Knows, state, closed, under_own, IsTakenLetter};
 
     /// A connection that is retired and has nothing left to do ends.
     pub(crate) fn drain(&mut self, at: u64, out: &mut Outbox)
@@ -124,21 +126,8 @@ impl UpstreamPart {
         ensures letter_room { out.new.letters.spare + 2 ≡ out.old.letters.spare }
         ensures entries { out.new.entries ≡ out.old.entries }
     {
-        self.core
-            .tell_client(op.client, Letter::Failed { op, which }, out);
-        self.end(op, None, out);
-    }
-
-    /// Posts the letter of an operation's end, for which there is room.
-    pub(crate) fn end(&self, op: OpName, latency: Option<u32>, out: &mut Outbox)
-        requires { 1 ≤ out.old.letters.spare }
-        ensures letters { out.new.letters.items ≡ out.old.letters.items ++ to Desk (Ended op self.now.core.number latency) }
-        ensures letter_room { out.new.letters.spare + 1 ≡ out.old.letters.spare }
-        ensures entries { out.new.entries ≡ out.old.entries }
-    {
-        let conn = self.core.number();
-        self.core
-            .tell_desk(Letter::Ended { op, conn, latency }, out);
+        self.core.fail(op, which, out);
+        self.core.tell_end(op, None, out);
     }
 
     /// A Drop of an operation that isn't live: it is idle.
@@ -256,27 +245,8 @@ impl UpstreamPart {
         self.core.put(at, What::Got { id, rest: told }, out);
         self.core.touch(id, at);
         self.core.moved(at);
-        self.reply(op, rest, false, out);
+        self.core.reply(op, rest, false, None, out);
         Ok(())
-    }
-
-    /// Posts a reply to an operation's client, for which there is room.
-    pub(crate) fn reply(&self, op: OpName, rest: Body, last: bool, out: &mut Outbox)
-        requires { 1 ≤ out.old.letters.spare }
-        ensures letters { out.new.letters.items ≡ out.old.letters.items ++ reply op rest last None }
-        ensures letter_room { out.new.letters.spare + 1 ≡ out.old.letters.spare }
-        ensures entries { out.new.entries ≡ out.old.entries }
-    {
-        self.core.tell_client(
-            op.client,
-            Letter::Reply {
-                op,
-                rest,
-                last,
-                who: None,
-            },
-            out,
-        );
     }
 
     /// A message that nothing waits for, or that takes the connection down, for a reason.

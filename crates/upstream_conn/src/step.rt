@@ -9,13 +9,14 @@ use outbox::Outbox;
 
 impl UpstreamPart {
     ghost use Rattle.part_spec.specs.ConnectionState.{ConnectionState};
+    ghost use Rattle.conn_core.specs.Turned.{Turned, IsSame};
     ghost use Rattle.upstream_conn.specs.Part.{Stands, IsTaken};
-    ghost use Rattle.upstream_conn.specs.Turned.{Turned, IsSame};
 
     /// Takes an input, and appends what its rule makes: entries of the connection's list, and letters to other parts. An
-    /// input without a rule leaves the part as it was and gives nothing. For want of memory nothing changes.
+    /// input without a rule leaves the part as it was and gives nothing. For want of memory nothing changes. A Forward may be
+    /// taken where the connection is up, and the operation isn't live here and is no Bind.
     pub fn step(&mut self, input: Input, out: &mut Outbox) -> Result<(), NoMemory>
-        ensures turned { OnOk result ((s : Settings) (p : ConnectionState) → Stands s p self.old → IsTaken self.old input → Turned s p input out.old out.new self.new) }
+        ensures turned { OnOk result ((s : Settings) (p : ConnectionState) → Stands s p self.old → IsTaken self.old input → Turned s p input out.old out.new (λ q. Stands s q self.new)) }
         ensures out { OnErr result (IsSame out.old out.new) }
         ensures err { OnErr result (self.new ≡ self.old) }
     {
@@ -34,7 +35,7 @@ impl UpstreamPart {
 
     /// The connection is linked.
     fn step_link(&mut self, now: u64, out: &mut Outbox) -> Result<(), NoMemory>
-        ensures turned { OnOk result ((s : Settings) (p : ConnectionState) → Stands s p self.old → Turned s p (LinkUp now) out.old out.new self.new) }
+        ensures turned { OnOk result ((s : Settings) (p : ConnectionState) → Stands s p self.old → Turned s p (LinkUp now) out.old out.new (λ q. Stands s q self.new)) }
         ensures out { OnErr result (IsSame out.old out.new) }
         ensures err { OnErr result (self.new ≡ self.old) }
     {
@@ -55,7 +56,7 @@ impl UpstreamPart {
         rest: Body,
         out: &mut Outbox,
     ) -> Result<(), NoMemory>
-        ensures turned { OnOk result ((s : Settings) (p : ConnectionState) → Stands s p self.old → Turned s p (Message now id rest) out.old out.new self.new) }
+        ensures turned { OnOk result ((s : Settings) (p : ConnectionState) → Stands s p self.old → Turned s p (Message now id rest) out.old out.new (λ q. Stands s q self.new)) }
         ensures out { OnErr result (IsSame out.old out.new) }
         ensures err { OnErr result (self.new ≡ self.old) }
     {
@@ -76,7 +77,7 @@ impl UpstreamPart {
 
     /// A letter comes.
     fn step_letter(&mut self, now: u64, letter: Letter, out: &mut Outbox) -> Result<(), NoMemory>
-        ensures turned { OnOk result ((s : Settings) (p : ConnectionState) (word : ℕ) (sender : PartName) → Stands s p self.old → IsTaken self.old (LetterFrom now word sender letter) → Turned s p (LetterFrom now word sender letter) out.old out.new self.new) }
+        ensures turned { OnOk result ((s : Settings) (p : ConnectionState) (word : ℕ) (sender : PartName) → Stands s p self.old → IsTaken self.old (LetterFrom now word sender letter) → Turned s p (LetterFrom now word sender letter) out.old out.new (λ q. Stands s q self.new)) }
         ensures out { OnErr result (IsSame out.old out.new) }
         ensures err { OnErr result (self.new ≡ self.old) }
     {
@@ -91,7 +92,7 @@ impl UpstreamPart {
 
     /// The clock moves.
     fn step_tick(&mut self, now: u64, out: &mut Outbox) -> Result<(), NoMemory>
-        ensures turned { OnOk result ((s : Settings) (p : ConnectionState) → Stands s p self.old → Turned s p (Tick now) out.old out.new self.new) }
+        ensures turned { OnOk result ((s : Settings) (p : ConnectionState) → Stands s p self.old → Turned s p (Tick now) out.old out.new (λ q. Stands s q self.new)) }
         ensures out { OnErr result (IsSame out.old out.new) }
         ensures err { OnErr result (self.new ≡ self.old) }
     {

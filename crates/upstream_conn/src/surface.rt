@@ -1,4 +1,4 @@
-ghost use Rattle.std.specs.Prelude.{◌≡◌, ◌≤◌, ◌++◌, None, IfOk};
+ghost use Rattle.std.specs.Prelude.{◌≡◌, ◌≤◌, ◌*◌, ◌++◌, None, IfOk};
 ghost use Rattle.lload_spec.specs.Settings.{Settings};
 ghost use Rattle.upstream_conn.specs.Part.{request_of};
 
@@ -26,7 +26,9 @@ impl UpstreamPart {
     ghost use Rattle.lload_names.specs.declared.inputs.Input.{Input};
     ghost use Rattle.lload_names.specs.declared.names.EndWhy.{EndWhy};
     ghost use Rattle.part_spec.specs.Turn.{connection_turn, connection_sever};
-    ghost use Rattle.upstream_conn.specs.Most.{most_of, IsWithin};
+    ghost use Rattle.conn_core.specs.Most.{IsWithin};
+    ghost use Rattle.conn_core.specs.Turned.{behind};
+    ghost use Rattle.upstream_conn.specs.Most.{most_of};
     ghost use Rattle.upstream_conn.specs.Part.{Stands, IsMade};
 
     /// The part of a connection that isn't linked yet.
@@ -84,10 +86,12 @@ impl UpstreamPart {
         self.core.sever(at, why, None)
     }
 
-    /// How many entries, and how many letters, a step or the end of the link gives now at most. It takes no memory.
+    /// How many entries, and how many letters, a step or the end of the link gives now at most. A step doubles it at most.
+    /// It takes no memory.
     pub fn most(&self) -> u64
         ensures most { (s : Settings) (p : ConnectionState) → Stands s p self.now → result ≡ most_of p }
         ensures step { (s : Settings) (p : ConnectionState) (input : Input) → Stands s p self.now → IsWithin result (connection_turn s p input) }
+        ensures doubles { (s : Settings) (p : ConnectionState) (input : Input) → Stands s p self.now → most_of (behind s p input) ≤ 2 * result }
         ensures sever { (s : Settings) (p : ConnectionState) (now : ℕ) (why : EndWhy) → Stands s p self.now → IsWithin result (connection_sever p now why) }
     {
         3 * self.core.len() as u64 + 4

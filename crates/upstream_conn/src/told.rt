@@ -1,6 +1,4 @@
-ghost use Rattle.std.specs.Prelude.{◌≡◌, ◌==◌, ℕ, List};
-ghost use Rattle.ldap_spec.specs.Tags.{extended_response};
-ghost use Rattle.ldap_spec.specs.Kinds.{is_response, tag_of};
+ghost use Rattle.std.specs.Prelude.{◌≡◌, ℕ, List};
 ghost use Rattle.ldap_messages.specs.Responses.{IsResponse};
 ghost use Rattle.upstream_conn.specs.Told.{told_of, own_told};
 
@@ -63,18 +61,4 @@ pub fn own_told(rest: &[u8]) -> OwnTold
         Some(0) => OwnTold::Success,
         _ => OwnTold::Refused,
     }
-}
-
-/// Whether the rest of a message is an extended response.
-pub(crate) fn is_extended(rest: &[u8]) -> bool
-    ensures { result ≡ (tag_of rest.now == extended_response) }
-{
-    rest.first() == Some(&0x78)
-}
-
-/// Whether it is a response at all.
-pub(crate) fn is_response(rest: &[u8]) -> bool
-    ensures { result ≡ is_response rest.now }
-{
-    response_kind(rest).is_some()
 }

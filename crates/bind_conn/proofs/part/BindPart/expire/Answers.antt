@@ -21,7 +21,7 @@ end-requires-2-clause-letters c =
     let less = without-length c.args.id c.args.self.now.core.table.rows in
     let rows = ap (λ (w : Conn). length w.table.rows) c.end.ensures.ended in
     let same = ap (λ (x : Room Posted). x.spare) c.put.ensures.letters in
-    omega (arith, less, rows, same, c.in_ok-reserve_end.ensures.letter_room, c.tell_client.ensures.letter_room)
+    omega (arith, less, rows, same, c.in_ok-reserve_end.ensures.letter_room, c.fail.ensures.letter_room)
 
 pub returns-clause-did : goal.returns-clause-did
 returns-clause-did c = λ s k.
@@ -31,11 +31,11 @@ returns-clause-did c = λ s k.
     let n = ap (λ (w : Conn). w.number) c.end.ensures.ended in
     expire-did s b c.args.at c.args.id r.0 c.args.op k r.1 r.2.0 r.2.1 c.end-2.new.self o c.end-2.new.out
     (c.end-2.ensures.entries
-    ∙ ap (λ (l : List Entry). l ++ entries_of (Connection c.end.new.self.number) c.args.at (what.Down TimedOut ∷ [])) (ap (λ (x : Room Entry). x.items) c.tell_client.ensures.entries ∙ c.put.ensures.entries ∙ ap (λ (l : List Entry). l ++ entries_of (Connection c.end.new.self.number) c.args.at (what.Expired c.args.op ∷ [])) c.in_ok-reserve_end.ensures.entries)
+    ∙ ap (λ (l : List Entry). l ++ entries_of (Connection c.end.new.self.number) c.args.at (what.Down TimedOut ∷ [])) (ap (λ (x : Room Entry). x.items) c.fail.ensures.entries ∙ c.put.ensures.entries ∙ ap (λ (l : List Entry). l ++ entries_of (Connection c.end.new.self.number) c.args.at (what.Expired c.args.op ∷ [])) c.in_ok-reserve_end.ensures.entries)
     ∙ append_assoc o.entries.items (entries_of (Connection c.end.new.self.number) c.args.at (what.Expired c.args.op ∷ [])) (entries_of (Connection c.end.new.self.number) c.args.at (what.Down TimedOut ∷ []))
     ∙ ap (λ i. o.entries.items ++ entries_of (Connection i) c.args.at (what.Expired c.args.op ∷ what.Down TimedOut ∷ [])) n)
     (c.end-2.ensures.letters s (ended-knows s b c.end.new.self c.args.id r.0 r.1 c.end.ensures.ended c.end.ensures.table k)
-    ∙ ap (λ (l : List Posted). l ++ down_letters (state (record b { core = c.end.new.self }))) (c.tell_client.ensures.letters ∙ ap (λ (l : List Posted). l ++ failed c.args.op C5) (ap (λ (x : Room Posted). x.items) c.put.ensures.letters ∙ c.in_ok-reserve_end.ensures.letters))
+    ∙ ap (λ (l : List Posted). l ++ down_letters (state (record b { core = c.end.new.self }))) (c.fail.ensures.letters ∙ ap (λ (l : List Posted). l ++ failed c.args.op C5) (ap (λ (x : Room Posted). x.items) c.put.ensures.letters ∙ c.in_ok-reserve_end.ensures.letters))
     ∙ append_assoc o.letters.items (failed c.args.op C5) (down_letters (state (record b { core = c.end.new.self })))
     ∙ ap (λ (w : Conn). o.letters.items ++ (failed c.args.op C5 ++ down_letters (state (record b { core = w })))) c.end.ensures.ended)
     (c.end-2.ensures.behind ∙ ap (λ (w : Conn). record (with_down (state (record b { core = w }))) { moment = c.args.at }) c.end.ensures.ended)
@@ -50,7 +50,7 @@ returns-clause-room c =
     let less = without-length c.args.id c.args.self.now.core.table.rows in
     let rows = ap (λ (w : Conn). length w.table.rows) c.end.ensures.ended in
     let same = ap (λ (x : Room Posted). x.spare) c.put.ensures.letters in
-    let kept = ap (λ (x : Room Entry). x.spare) c.tell_client.ensures.entries in (
+    let kept = ap (λ (x : Room Entry). x.spare) c.fail.ensures.entries in (
       omega (arith, kept, c.in_ok-reserve_end.ensures.entry_room, c.put.ensures.entry_room, c.end-2.ensures.entry_room),
-      omega (arith, less, rows, same, c.in_ok-reserve_end.ensures.letter_room, c.tell_client.ensures.letter_room, c.end-2.ensures.letter_room),
+      omega (arith, less, rows, same, c.in_ok-reserve_end.ensures.letter_room, c.fail.ensures.letter_room, c.end-2.ensures.letter_room),
     )

@@ -27,9 +27,9 @@ returns-clause-did c = λ s mark k.
     let new = c.moved.ensures ∙ ap (λ (w : Conn). record w { moment = c.args.at }) c.finish.ensures.finished in
     subst (λ (v : BindPart). Did s (state b) c.args.at mark (message s (state b) (record { id = c.args.id; rest = c.args.rest })) o c.release.new.out (state v)) (sym (c.release.ensures.released ∙ ap (λ (w : Conn). record b { core = w; holder = None }) new))
     (refuses-did s b o c.release.new.out c.args.at c.args.id c.args.first c.args.rest r.0 x.0 mark k r.1 x.1 x.2 c.args.op r.2.0 c.requires.told
-    (ap (λ (y : Room Entry). y.items) (c.release.ensures.entries ∙ c.tell_client.ensures.entries) ∙ c.put.ensures.entries ∙ ap (λ (l : List Entry). l ++ entries_of (Connection b.core.number) c.args.at (what.Got c.args.id c.args.rest ∷ [])) c.in_ok-reserve.ensures.entries)
+    (ap (λ (y : Room Entry). y.items) (c.release.ensures.entries ∙ c.fail.ensures.entries) ∙ c.put.ensures.entries ∙ ap (λ (l : List Entry). l ++ entries_of (Connection b.core.number) c.args.at (what.Got c.args.id c.args.rest ∷ [])) c.in_ok-reserve.ensures.entries)
     (c.release.ensures.letters
-    ∙ ap (λ (l : List Posted). l ++ holder_letters c.moved.new.self.number b.holder) (c.tell_client.ensures.letters ∙ ap (λ (l : List Posted). l ++ failed c.args.op C9) (ap (λ (y : Room Posted). y.items) c.put.ensures.letters ∙ c.in_ok-reserve.ensures.letters))
+    ∙ ap (λ (l : List Posted). l ++ holder_letters c.moved.new.self.number b.holder) (c.fail.ensures.letters ∙ ap (λ (l : List Posted). l ++ failed c.args.op C9) (ap (λ (y : Room Posted). y.items) c.put.ensures.letters ∙ c.in_ok-reserve.ensures.letters))
     ∙ append_assoc o.letters.items (failed c.args.op C9) (holder_letters c.moved.new.self.number b.holder)
     ∙ ap (λ (w : Conn). o.letters.items ++ (failed c.args.op C9 ++ holder_letters w.number b.holder)) new))
 

@@ -1,6 +1,6 @@
 use Rattle.std.proofs.Common.{ap, sym, ◌∙◌}
 use Rattle.lload_names.specs.declared.inputs.Effects.{Effects}
-use Rattle.bind_conn.proofs.Turns.{present}
+use Rattle.conn_core.proofs.Turns.{present}
 use Rattle.bind_conn.proofs.Severs.{severed-is}
 use Rattle.bind_conn.proofs.part.BindPart.sever.Goals as goal
 

@@ -3,7 +3,8 @@ use Rattle.lload_names.specs.declared.inputs.Input.TheVariants.{Message}
 use Rattle.part_spec.specs.Inputs.{where_so}
 use Rattle.part_spec.specs.BindTurn.{message}
 use Rattle.bind_conn.specs.Part.{state}
-use Rattle.bind_conn.proofs.Turns.{step-turned, present}
+use Rattle.conn_core.proofs.Turns.{present}
+use Rattle.bind_conn.proofs.Turns.{step-turned}
 use Rattle.bind_conn.proofs.part.BindPart.step_message.Goals as goal
 
 pub returns-clause-turned : goal.returns-clause-turned

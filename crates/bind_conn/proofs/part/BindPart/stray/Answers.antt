@@ -1,5 +1,5 @@
 use Rattle.std.proofs.Common.{List, ℕ, ap, sym, ◌∙◌}
-use Rattle.bind_conn.specs.Told.{is_dropped}
+use Rattle.conn_core.specs.Dropped.{is_dropped}
 use Rattle.bind_conn.proofs.Misfits.{stray-fells}
 use Rattle.bind_conn.proofs.part.BindPart.stray.Goals as goal
 

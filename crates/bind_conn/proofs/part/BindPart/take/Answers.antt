@@ -1,4 +1,4 @@
-use Rattle.bind_conn.proofs.Turns.{on-ok}
+use Rattle.conn_core.proofs.Turns.{on-ok}
 use Rattle.bind_conn.proofs.part.BindPart.take.Goals as goal
 
 pub returns-in-Forward-clause-did : goal.returns-in-Forward-clause-did

@@ -29,13 +29,13 @@ returns-clause-did c = λ s mark k.
     let new = c.moved.ensures ∙ ap (λ (w : Conn). record w { moment = c.args.at }) ended in
     subst (λ (w : Conn). Did s (state u) c.args.at mark (drops s (state u) c.args.op) o c.tell_retired.new.out (state (record u { core = w }))) (sym new)
     (abandon-did s u o c.tell_retired.new.out c.args.at c.args.id own c.args.op mark k c.requires.live c.in-Some.ensures.own.0
-    (ap (λ (r : Room Entry). r.items) (c.tell_retired.ensures.entries ∙ c.end-2.ensures.entries)
+    (ap (λ (r : Room Entry). r.items) (c.tell_retired.ensures.entries ∙ c.tell_end.ensures.entries)
     ∙ c.put_giving.ensures.entries
     ∙ ap (λ (l : List Entry). l ++ entries_of (Connection c.end.new.self.number) c.args.at (given_whats (own == c.end.new.self.table.limit) (what.Own own c.in_ok-rest.rest))) c.in_ok-reserve.ensures.entries
     ∙ ap (λ (w : Conn). o.entries.items ++ entries_of (Connection w.number) c.args.at (given_whats (own == w.table.limit) (what.Own own c.in_ok-rest.rest))) ended
     ∙ ap (λ (b : List ℕ). o.entries.items ++ entries_of (Connection u.core.number) c.args.at (given_whats (own == u.core.table.limit) (what.Own own b))) c.in_ok-rest.ensures)
     (c.tell_retired.ensures.letters
-    ∙ ap (λ (l : List Posted). l ++ retired_letters c.moved.new.self.number (own == c.moved.new.self.table.limit)) (c.end-2.ensures.letters ∙ ap (λ (l : List Posted). l ++ to Desk (Ended c.args.op c.moved.new.self.number None)) (ap (λ (r : Room Posted). r.items) c.put_giving.ensures.letters ∙ c.in_ok-reserve.ensures.letters))
+    ∙ ap (λ (l : List Posted). l ++ retired_letters c.moved.new.self.number (own == c.moved.new.self.table.limit)) (c.tell_end.ensures.letters ∙ ap (λ (l : List Posted). l ++ to Desk (Ended c.args.op c.moved.new.self.number None)) (ap (λ (r : Room Posted). r.items) c.put_giving.ensures.letters ∙ c.in_ok-reserve.ensures.letters))
     ∙ append_assoc o.letters.items (to Desk (Ended c.args.op c.moved.new.self.number None)) (retired_letters c.moved.new.self.number (own == c.moved.new.self.table.limit))
     ∙ ap (λ (w : Conn). o.letters.items ++ (to Desk (Ended c.args.op w.number None) ++ retired_letters w.number (own == w.table.limit))) new))
 

@@ -1,4 +1,4 @@
-use Rattle.upstream_conn.proofs.Turns.{on-ok}
+use Rattle.conn_core.proofs.Turns.{on-ok}
 use Rattle.upstream_conn.proofs.part.UpstreamPart.forward.Goals as goal
 
 pub returns-then-is_retired-clause-did : goal.returns-then-is_retired-clause-did

@@ -1,6 +1,6 @@
 use Rattle.std.proofs.Common.{ap, sym, ◌∙◌}
 use Rattle.lload_names.specs.declared.inputs.Effects.{Effects}
-use Rattle.upstream_conn.proofs.Turns.{present}
+use Rattle.conn_core.proofs.Turns.{present}
 use Rattle.upstream_conn.proofs.Severs.{severed-is}
 use Rattle.upstream_conn.proofs.part.UpstreamPart.sever.Goals as goal
 

@@ -1,6 +1,7 @@
 use Rattle.std.proofs.Common.{refl}
 use Rattle.lload_names.specs.declared.inputs.Input.TheVariants.{Arrive, LinkGone, Stall, Flow}
-use Rattle.upstream_conn.proofs.Turns.{on-ok, nothing-turned}
+use Rattle.conn_core.proofs.Turns.{on-ok}
+use Rattle.upstream_conn.proofs.Turns.{nothing-turned}
 use Rattle.upstream_conn.proofs.part.UpstreamPart.step.Goals as goal
 
 pub returns-in-LinkUp-clause-turned : goal.returns-in-LinkUp-clause-turned

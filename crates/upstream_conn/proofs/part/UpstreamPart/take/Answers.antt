@@ -1,4 +1,4 @@
-use Rattle.upstream_conn.proofs.Turns.{on-ok}
+use Rattle.conn_core.proofs.Turns.{on-ok}
 use Rattle.upstream_conn.proofs.part.UpstreamPart.take.Goals as goal
 
 pub returns-in-Forward-clause-did : goal.returns-in-Forward-clause-did

@@ -7,6 +7,7 @@ use Rattle.lload_names.specs.declared.names.Letter.TheVariants.{IsRetired}
 use Rattle.lload_names.specs.declared.names.What.{What}
 use Rattle.lload_names.specs.declared.names.What.TheVariants as what
 use Rattle.lload_spec.specs.Settings.{Settings}
+use Rattle.id_table.specs.Table.{Table, used_up, passes_limit}
 use Rattle.part_spec.specs.Inputs.{to}
 use Rattle.part_spec.specs.ConnectionState.{ConnectionState}
 use Rattle.part_spec.specs.ConnectionTurn.{giving, retires}
@@ -29,3 +30,7 @@ retires-is s p id limit e = by (id == s.id_limit) ∙ ap (λ n. retired_letters 
 -- whether the limit was given, behind an identifier more
 pub passes-given : (limit next id : ℕ) → id ≤ next → nat_lt limit (max next (suc id)) ≡ (if id == limit then true else nat_lt limit next)
 passes-given limit next id l = grind (arith, nat_tests, l)
+
+-- and behind an own identifier
+pub used-passes : (t : Table) → passes_limit (used_up t) ≡ (if t.ids.next == t.limit then true else passes_limit t)
+used-passes t = passes-given t.limit t.ids.next t.ids.next (omega arith)
