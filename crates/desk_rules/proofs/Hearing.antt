@@ -36,7 +36,7 @@ or-map F a (suc n) (suc k) h =
     let next : suc a + k ≡ a + suc k = omega arith in
     or-map F (suc a) n k (omega (arith, h)) ∙ ap F next
 
-kept-of : (t : TierPlan) (calls : List Call) (x : Standing) (j : ℕ) → x ≡ standing t calls → j < length t.backends → slice_index_or x.latencies j [] ≡ last_of 16 (latencies_at j calls)
+pub kept-of : (t : TierPlan) (calls : List Call) (x : Standing) (j : ℕ) → x ≡ standing t calls → j < length t.backends → slice_index_or x.latencies j [] ≡ last_of 16 (latencies_at j calls)
 kept-of t calls x j e l =
     let at : 0 + j ≡ j = omega arith in
     let size = length-map t.backends (λ b. b.weight) in
@@ -63,11 +63,11 @@ module _ (s : Settings) (f : DeskFacts) (u latency : ℕ) (before after : ℕ �
   more : (b : ℕ) → is_of_backend s b u ≡ true → after b ≡ last_of 16 (before b ++ latency ∷ [])
   more b e = told b ∙ ap (λ t. elim t [ true ↦ last_of 16 (before b ++ latency ∷ []) | false ↦ before b ]) e
 
-  row-heard : (n : ℕ) (o : Option Conn) → RowIs s e' n o → RowIs s g n o
+  pub row-heard : (n : ℕ) (o : Option Conn) → RowIs s e' n o → RowIs s g n o
   row-heard n None h = record { viable_is = h.viable_is; pending_is = h.pending_is }
   row-heard n (Some r) h = record { place = h.place; viable_is = h.viable_is; pending_is = h.pending_is; in_plan = h.in_plan }
 
-  server-heard : (o : Option Server) → ServerIs s e' o → ServerIs s g o
+  pub server-heard : (o : Option Server) → ServerIs s e' o → ServerIs s g o
   server-heard None h = h
   server-heard (Some v) h = record {
     pending_is = h.pending_is;

@@ -7,3 +7,9 @@ mod Arrivals
 mod Turns
 mod Picking
 mod Hearing
+mod Rings
+mod Endings
+mod Lanes
+mod NewTables
+pub mod Placing
+pub mod Earlier

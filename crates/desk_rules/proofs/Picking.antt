@@ -61,7 +61,7 @@ last-one (x ∷ y ∷ xs) n = last-one (y ∷ xs) n
 last-pick : (calls : List Call) (place : ℕ) → last_picked (calls ++ Picked place ∷ []) ≡ Some place
 last-pick calls place = ap (last {A = ℕ}) (filter_map-append picked_place calls (Picked place ∷ [])) ∙ last-one (filter_map picked_place calls) place
 
-heard-pick : (i : ℕ) (calls : List Call) (place : ℕ) → latencies_at i (calls ++ Picked place ∷ []) ≡ latencies_at i calls
+pub heard-pick : (i : ℕ) (calls : List Call) (place : ℕ) → latencies_at i (calls ++ Picked place ∷ []) ≡ latencies_at i calls
 heard-pick i calls place = filter_map-append (told_latency i) calls (Picked place ∷ []) ∙ append-nil (latencies_at i calls)
 
 -- behind one latency more

@@ -3,3 +3,4 @@ pub mod Counts
 pub mod Rows
 pub mod Turning
 pub mod Latencies
+pub mod Fresh

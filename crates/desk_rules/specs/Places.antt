@@ -1,11 +1,13 @@
 -- Where a connection's place is in the tiers in force.
-use Rattle.std.specs.Prelude.{◌≡◌, ◌≤◌, ◌<◌, ℕ, ◌+◌, ◌-◌, ◌==◌, ◌&&◌, List, length, slice_get, Some}
+use Rattle.std.specs.Prelude.{◌≡◌, ◌≤◌, ◌<◌, ℕ, ◌+◌, ◌-◌, ◌==◌, ◌&&◌, List, length, drop, slice_get, Some}
 use Rattle.lload_names.specs.declared.names.ConnKind.{ConnKind}
 use Rattle.lload_names.specs.declared.plans.BackendPlan.{BackendPlan}
 use Rattle.lload_names.specs.declared.plans.TierPlan.{TierPlan}
 use Rattle.lload_names.specs.declared.plans.Place.{Place}
 use Rattle.lload_names.specs.Same.{is_kind}
 use Rattle.lload_names.specs.Plans.{backends_of, places_for}
+use Rattle.lload_spec.specs.Settings.{Settings, plan_in_force}
+use Rattle.lload_reload.specs.Bases.{AreNotBelow}
 use Rattle.ready_set.specs.Keys.{is_in}
 use Rattle.desk_tables.specs.Turns.{Turn}
 use Rattle.desk_tables.specs.declared.conns.Spot.{Spot}
@@ -29,3 +31,10 @@ pub record IsSpot (rounds : List Turn) (index : ℕ) (spot : Spot) : Type 0 wher
 -- a tier doesn't have the backend with this index
 abbrev pub IsElsewhere : ℕ → Turn → Type 0
 IsElsewhere index x = length x.tier.weights ≤ 64 → x.first ≤ index → x.first + length x.tier.weights ≤ index
+
+-- a connection is above the base of the plan with this number, counted from 1, and above that of no later plan
+pub record IsOfPlan (s : Settings) (k n : ℕ) : Type 0 where
+  pub begun : 1 ≤ k
+  pub some : k ≤ length s.plans
+  pub above : (plan_in_force s k).base < n
+  pub no_later : AreNotBelow n (drop k s.plans)

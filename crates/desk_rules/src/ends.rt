@@ -17,6 +17,7 @@ use ready_set::Ready;
 pub fn release(tables: &mut Tables, conn: u32) -> Result<(), NoMemory>
     ensures released { OnOk result ((s : Settings) (f : DeskFacts) (less : List ℕ) → Tells s f tables.old → IsLess conn less f.pending → Tells s (record f { pending = less }) tables.new) }
     ensures err { OnErr result ((s : Settings) (f : DeskFacts) → Tells s f tables.old → Tells s f tables.new) }
+    ensures rounds { tables.new.rounds ≡ tables.old.rounds }
 {
     let Some(row) = tables.conns.row(conn) else {
         return Ok(());

@@ -20,6 +20,7 @@ use lload_names::{NoMemory, Place};
 pub fn up(tables: &mut Tables, conn: u32, place: Place) -> Result<(), NoMemory>
     ensures up { OnOk result ((s : Settings) (f : DeskFacts) → Tells s f tables.old → place_at s conn ≡ Some place → IsPlaced f.tiers place → is_in conn f.viable ≡ false → Tells s (record f { viable = f.viable ++ conn ∷ [] }) tables.new) }
     ensures err { OnErr result ((s : Settings) (f : DeskFacts) → Tells s f tables.old → is_in conn f.viable ≡ false → Tells s f tables.new) }
+    ensures rounds { tables.new.rounds ≡ tables.old.rounds }
 {
     let Some(index) = numbered(tables.servers.as_slice(), place.backend) else {
         return Ok(());
@@ -110,7 +111,8 @@ fn enter(tables: &mut Tables, conn: u32, row: Conn) -> Result<(), NoMemory>
 
 /// A connection isn't viable any more: it retired or is down. It takes no memory.
 pub fn lost(tables: &mut Tables, conn: u32)
-    ensures { (s : Settings) (f : DeskFacts) → Tells s f tables.old → Tells s (record f { viable = without_connection conn f.viable }) tables.new }
+    ensures lost { (s : Settings) (f : DeskFacts) → Tells s f tables.old → Tells s (record f { viable = without_connection conn f.viable }) tables.new }
+    ensures rounds { tables.new.rounds ≡ tables.old.rounds }
 {
     let Some(row) = tables.conns.row(conn) else {
         return;

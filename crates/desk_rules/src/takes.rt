@@ -21,6 +21,7 @@ use ready_set::Ready;
 pub fn take_on(tables: &mut Tables, conn: u32) -> Result<(), NoMemory>
     ensures taken { OnOk result ((s : Settings) (f : DeskFacts) (more : List ℕ) → Tells s f tables.old → is_in conn f.viable ≡ true → IsLess conn f.pending more → Tells s (record f { pending = more }) tables.new) }
     ensures err { OnErr result ((s : Settings) (f : DeskFacts) → Tells s f tables.old → Tells s f tables.new) }
+    ensures rounds { tables.new.rounds ≡ tables.old.rounds }
 {
     let Some(row) = tables.conns.row(conn) else {
         return Ok(());
@@ -50,7 +51,8 @@ pub fn take_on(tables: &mut Tables, conn: u32) -> Result<(), NoMemory>
 
 /// The place of a connection that is viable was chosen last of those of its backend and kind. It takes no memory.
 pub fn turn_to(tables: &mut Tables, conn: u32)
-    ensures { (s : Settings) (f : DeskFacts) (last : ℕ → ConnKind → Option ℕ) → Tells s f tables.old → is_in conn f.viable ≡ true → IsTurn s conn f.last_place last → Tells s (record f { last_place = last }) tables.new }
+    ensures turned { (s : Settings) (f : DeskFacts) (last : ℕ → ConnKind → Option ℕ) → Tells s f tables.old → is_in conn f.viable ≡ true → IsTurn s conn f.last_place last → Tells s (record f { last_place = last }) tables.new }
+    ensures rounds { tables.new.rounds ≡ tables.old.rounds }
 {
     let Some(row) = tables.conns.row(conn) else {
         return;

@@ -2,6 +2,7 @@ ghost use Rattle.std.specs.Prelude.{◌≡◌, ◌≤◌, ◌+◌, ◌&&◌, ◌
 ghost use Rattle.std.specs.Option.{ForSome};
 ghost use Rattle.lload_names.specs.Same.{same_op};
 ghost use Rattle.lload_names.specs.declared.names.OpName.{OpName};
+ghost use Rattle.lload_names.specs.declared.names.ConnKind.TheVariants.{Bind};
 
 use bind_pool::BindPool;
 use lload_names::{ConnKind, NoMemory, OpName};
@@ -33,6 +34,7 @@ impl Pending {
     pub fn put(&mut self, op: OpName, conn: u32, kind: ConnKind) -> Result<bool, NoMemory>
         ensures put { result ≡ Ok true → ((n : ℕ) → times self.old op n ≡ 0) → (o : OpName) (n : ℕ) → times self.new o n ≡ times self.old o n + one (same_op op o && conn == n) }
         ensures held { result ≡ Ok false → SomeHolder conn self.old }
+        ensures kind { result ≡ Ok false → kind ≡ Bind }
         ensures same { result ≡ Ok false → (o : OpName) (n : ℕ) → times self.new o n ≡ times self.old o n }
         ensures err { OnErr result ((o : OpName) (n : ℕ) → times self.new o n ≡ times self.old o n) }
     {

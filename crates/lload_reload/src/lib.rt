@@ -11,4 +11,4 @@ mod plans;
 #[cfg(test)]
 mod tests;
 
-pub use plans::Plans;
+pub use plans::{Plans, backends_in};

@@ -73,6 +73,29 @@ impl Plans {
         Ok(true)
     }
 
+    /// The base of the last plan. It takes no memory.
+    pub fn last_base(&self) -> u32
+        ensures { result ≡ last_base self.now }
+    {
+        match self.plans.as_slice().last() {
+            Some(planned) => planned.base,
+            None => 0,
+        }
+    }
+
+    /// The same plans again. For want of memory nothing is made.
+    pub fn copy(&self, alloc: Global) -> Result<Plans, NoMemory>
+        ensures { IfOk result (λ copy. copy ≡ self.now) }
+    {
+        let plans = copied(alloc, self.plans.as_slice())?;
+        let before = self.before.clone()?;
+        Ok(Plans {
+            plans,
+            before,
+            count: self.count,
+        })
+    }
+
     /// The place of a connection, by the connection's number: by the plan with the greatest base below it, the later
     /// one where bases are equal, with the backend's number raised by the count of all backends of earlier plans.
     /// `None` exactly for 0 and for a plan without places. It takes no memory.
@@ -88,6 +111,20 @@ impl Plans {
             ..place
         })
     }
+}
+
+/// These plans again. For want of memory nothing is made.
+fn copied(alloc: Global, plans: &[Planned]) -> Result<Listed<Planned>, NoMemory>
+    ensures { IfOk result (λ copy. copy ≡ plans.now) }
+{
+    let mut copy = Listed::new(alloc);
+    for planned in plans {
+        copy.push(Planned {
+            plan: planned.plan.copy()?,
+            base: planned.base,
+        })?;
+    }
+    Ok(copy)
 }
 
 /// How many plans, from the first on, have a base below a connection's number.
@@ -108,8 +145,8 @@ fn end_below(plans: &[Planned], conn: u32) -> usize
     low
 }
 
-/// How many backends a plan has.
-fn backends_in(plan: &DeskPlan) -> u32
+/// How many backends a plan has. It takes no memory.
+pub fn backends_in(plan: &DeskPlan) -> u32
     requires { length (backends_of plan.now) ≤ 64 }
     ensures { result ≡ length (backends_of plan.now) }
 {

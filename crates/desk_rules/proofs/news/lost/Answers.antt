@@ -4,17 +4,17 @@ use Rattle.desk_tables.specs.Lanes.{lane_of, with_lane}
 use Rattle.desk_rules.proofs.Losses.{lost-tells, lost-none, no-row, idle-row, has-server, is-some}
 use Rattle.desk_rules.proofs.news.lost.Goals as goal
 
-pub returns-in_default : goal.returns-in_default
-returns-in_default c = λ s f k. lost-none s f c.args.conn c.args.tables.now (no-row s f c.args.conn c.args.tables.now k (sym c.in_default.ensures)) k
+pub returns-in_default-clause-lost : goal.returns-in_default-clause-lost
+returns-in_default-clause-lost c = λ s f k. lost-none s f c.args.conn c.args.tables.now (no-row s f c.args.conn c.args.tables.now k (sym c.in_default.ensures)) k
 
-pub returns-then-not-row : goal.returns-then-not-row
-returns-then-not-row c = λ s f k. lost-none s f c.args.conn c.args.tables.now (idle-row s f c.args.conn c.args.tables.now c.in-Some.row k (sym c.in-Some.ensures) (grind (arith, c.if-not-row.true))) k
+pub returns-then-not-row-clause-lost : goal.returns-then-not-row-clause-lost
+returns-then-not-row-clause-lost c = λ s f k. lost-none s f c.args.conn c.args.tables.now (idle-row s f c.args.conn c.args.tables.now c.in-Some.row k (sym c.in-Some.ensures) (grind (arith, c.if-not-row.true))) k
 
-pub returns-in_default-server_at : goal.returns-in_default-server_at
-returns-in_default-server_at c = λ s f k. absurd (let bad = has-server s f c.args.conn c.args.tables.now c.in-Some.row k (sym c.in-Some.ensures) (sym c.in_default-server_at.ensures) in cc)
+pub returns-in_default-server_at-clause-lost : goal.returns-in_default-server_at-clause-lost
+returns-in_default-server_at-clause-lost c = λ s f k. absurd (let bad = has-server s f c.args.conn c.args.tables.now c.in-Some.row k (sym c.in-Some.ensures) (sym c.in_default-server_at.ensures) in cc)
 
-pub returns : goal.returns
-returns c = λ s f k.
+pub returns-clause-lost : goal.returns-clause-lost
+returns-clause-lost c = λ s f k.
     let d = c.args.tables.now in
     let r = c.in-Some.row in
     let v = c.in-Some-server_at.server in

@@ -5,14 +5,14 @@ use Rattle.desk_rules.proofs.Gains.{viable-has-row}
 use Rattle.desk_rules.proofs.Turns.{turned-tells}
 use Rattle.desk_rules.proofs.takes.turn_to.Goals as goal
 
-pub returns-in_default : goal.returns-in_default
-returns-in_default c = λ s f last k viable turn. absurd (let bad = viable-has-row s f c.args.conn c.args.tables.now k (sym c.in_default.ensures) viable in cc)
+pub returns-in_default-clause-turned : goal.returns-in_default-clause-turned
+returns-in_default-clause-turned c = λ s f last k viable turn. absurd (let bad = viable-has-row s f c.args.conn c.args.tables.now k (sym c.in_default.ensures) viable in cc)
 
-pub returns-in_default-server_at : goal.returns-in_default-server_at
-returns-in_default-server_at c = λ s f last k viable turn. absurd (let bad = has-server s f c.args.conn c.args.tables.now c.in-Some.row k (sym c.in-Some.ensures) (sym c.in_default-server_at.ensures) in cc)
+pub returns-in_default-server_at-clause-turned : goal.returns-in_default-server_at-clause-turned
+returns-in_default-server_at-clause-turned c = λ s f last k viable turn. absurd (let bad = has-server s f c.args.conn c.args.tables.now c.in-Some.row k (sym c.in-Some.ensures) (sym c.in_default-server_at.ensures) in cc)
 
-pub returns : goal.returns
-returns c = λ s f last k viable turn.
+pub returns-clause-turned : goal.returns-clause-turned
+returns-clause-turned c = λ s f last k viable turn.
     let d = c.args.tables.now in
     let r = c.in-Some.row in
     let v = c.in-Some-server_at.server in

@@ -1,0 +1,11 @@
+mod Lasts
+mod Lists
+mod Rings
+mod Views
+mod Ending
+mod Choosing
+mod Coming
+mod Places
+mod Turns
+mod Raising
+mod Plans

@@ -1,0 +1,5 @@
+pub mod Part
+pub mod Plans
+pub mod States
+pub mod Did
+pub mod Turned
