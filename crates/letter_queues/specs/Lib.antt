@@ -1,0 +1,4 @@
+pub mod Batches
+pub mod Laws
+pub mod Queues
+pub mod Rows
