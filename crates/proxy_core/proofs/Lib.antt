@@ -1,0 +1,10 @@
+pub mod Places
+pub mod Each
+pub mod Letters
+pub mod Moves
+pub mod Quiet
+pub mod Links
+pub mod Journals
+pub mod Begun
+pub mod Taken
+pub mod Errors

@@ -1,0 +1,5 @@
+pub mod States
+pub mod Turned
+pub mod Events
+pub mod Runs
+pub mod Made

@@ -1,0 +1,4 @@
+pub mod States
+pub mod Room
+pub mod Clients
+pub mod Connections
